@@ -1,0 +1,16 @@
+pub mod Demand
+pub mod Prog
+pub mod Text
+pub mod Kinds
+pub mod Rows
+pub mod Frames
+pub mod Decode
+pub mod Digits
+pub mod Encode
+pub mod Samples
+pub mod Cells
+pub mod DemandLaws
+pub mod ProgLaws
+pub mod RowsLaws
+pub mod FramesLaws
+pub mod DecodeLaws
