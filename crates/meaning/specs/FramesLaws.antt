@@ -1,4 +1,4 @@
--- Every frame takes as many rows as its span says, whatever the decoder and the depth.
+-- What heads and frames keep: a frame takes as many rows as its span says, whatever the decoder and the depth, and RESP2 makes no marker.
 use mathlib.Core.Path.{_≡_, refl, sym, ap, subst, _∙_}
 use mathlib.Core.List.{List, [], _∷_}
 use mathlib.Core.Bool.{Bool, true, false, _||_, _&&_}
@@ -10,70 +10,99 @@ use lib.ListN.{length, take, getD}
 use lib.Dec.{ltb, eqb}
 use Rattle.meaning.specs.Demand.{pick}
 use Rattle.meaning.specs.Prog.{Prog, ret, refuse, room, here, ask, bind}
-use Rattle.meaning.specs.ProgLaws.{Weighs, weighs-bind, weighs-more, weighs-pick}
+use Rattle.meaning.specs.ProgLaws.{Says, says-pick, says-weighs, says-gives, Weighs, weighs-bind, weighs-more, weighs-pick, Gives, gives-bind, gives-else}
 use Rattle.meaning.specs.Text.{Num, bad, plus, minus, signed, Length, wrong, count, minusOne, double, boolean, format, parts, is}
-use Rattle.meaning.specs.Kinds.{Profile, kindOf, mayCarry}
+use borrow.Author.Tests.{ne-eqb}
+use Rattle.meaning.specs.Kinds.{Profile, resp2, kindOf, mayCarry}
+use Rattle.meaning.specs.KindsLaws.{kind-plain, kind-unmarked}
 use Rattle.meaning.specs.Rows.{headOf, Forest, end, item, join, lastKind, mayHold, span}
 use Rattle.meaning.specs.RowsLaws.{span-join}
 use Rattle.meaning.specs.Frames.{Step, leaf, greeting, holder, textLineP, numberP, numbered, sized, absent, lengthFor, lengthP, bulkP, blankP, booleanP, judged, doubleP, verbatimP, chunkP, part, greets, authFields, fieldOf, helloOf, helloP, holderP, headP, repeat, heldP, roomsP, restP, bodyP, typeP, carriesP, annotatedP, attributeP, frameP, decodeP}
 
--- a head asks for no row
-abbrev Still : Prog Step → Type 0
-Still p = Weighs 1 (λ st. 1) p
+-- ---- heads
 
-still-pick : (b : Bool) (p q : Prog Step) → Still p → Still q → Still (pick b p q)
-still-pick = weighs-pick (λ st. 1) 1
+abbrev stepKind : Step → ℕ
+stepKind (leaf k a b c) = k
+stepKind (greeting v f) = 18
+stepKind (holder k n) = k
 
-still-numbered : (n : Num) → Still (numbered n)
-still-numbered bad = tt
-still-numbered (plus n) = refl
-still-numbered (minus n) = refl
+-- Of a kind that is no marker's, RESP2 makes none.
+abbrev Unmarked : Profile → ℕ → Step → Type 0
+Unmarked π k st = π .three ≡ false → (k ≡ 19 → ⊥) → stepKind st ≡ 19 → ⊥
 
-still-judged : (o : Option ℕ) → Still (judged o)
-still-judged none = tt
-still-judged (some n) = refl
+absent-unmarked : (π : Profile) (k : ℕ) → Unmarked π k (absent π k)
+absent-unmarked π k = go (π .three)
+  where
+    go : (b : Bool) → b ≡ false → (k ≡ 19 → ⊥) → stepKind (pick b (leaf 19 0 0 k) (leaf 6 0 0 0)) ≡ 19 → ⊥
+    go true t h e = let z : _≡_ {A = ℕ} 0 1 = ap (λ (i : Bool). pick i 1 0) (sym t) in omega arith
+    go false t h e = omega arith
 
-still-sized : (π : Profile) (k : ℕ) (f : ℕ → Prog Step) → ((n : ℕ) → Still (f n)) → (l : Length) → Still (sized π k f l)
-still-sized π k f h wrong = tt
-still-sized π k f h (count n) = h n
-still-sized π k f h minusOne = refl
+-- What a head says: it asks for no row, and keeps to its kind.
+module _ (π : Profile) (k : ℕ) where
+  abbrev Head : Prog Step → Type 0
+  Head p = Says (Unmarked π k) p
 
-still-length : (π : Profile) (k : ℕ) (f : ℕ → Prog Step) → ((n : ℕ) → Still (f n)) → Still (lengthP π k f)
-still-length π k f h = λ c. still-sized π k f h (lengthFor π k (take (length c - 2) c))
+  head-pick : (b : Bool) (p q : Prog Step) → Head p → Head q → Head (pick b p q)
+  head-pick = says-pick (Unmarked π k)
 
-still-verbatim : (n : ℕ) → Still (verbatimP n)
-still-verbatim n = λ f. still-pick (ltb n 4) (refuse 4) _ tt (λ i j c. still-pick (eqb (format (take 3 f)) 0) (refuse 4) _ tt refl)
+  numbered-head : (n : Num) → Head (numbered n)
+  numbered-head bad = tt
+  numbered-head (plus n) = λ t h e. omega arith
+  numbered-head (minus n) = λ t h e. omega arith
 
-still-chunk : (n : ℕ) → Still (chunkP n)
-still-chunk n = still-pick (eqb n 0) (ret (leaf 12 0 0 0)) (bulkP 11 n) refl (λ i j c. refl)
+  judged-head : (o : Option ℕ) → Head (judged o)
+  judged-head none = tt
+  judged-head (some n) = λ t h e. omega arith
 
-still-greets : (ps : List (List ℕ)) (ok : Bool) (f : Forest) → Still (greets ps ok f)
-still-greets ps ok f =
-    still-pick (is "ELLO" (part ps 0) && ok) _ (refuse 5)
-    (still-pick (is "2" (part ps 1)) (ret (greeting 2 f)) _ refl (still-pick (is "3" (part ps 1)) (ret (greeting 3 f)) (refuse 5) refl tt))
-    tt
+  sized-head : (j : ℕ) (f : ℕ → Prog Step) → ((n : ℕ) → Head (f n)) → (l : Length) → Head (sized π j f l)
+  sized-head j f g wrong = tt
+  sized-head j f g (count n) = g n
+  sized-head j f g minusOne = λ t h e. absent-unmarked π 0 t (λ z. omega arith) (kind-absent (π .three) e)
+    where
+      kind-absent : (b : Bool) → stepKind (pick b (leaf 19 0 0 j) (leaf 6 0 0 0)) ≡ 19 → stepKind (pick b (leaf 19 0 0 0) (leaf 6 0 0 0)) ≡ 19
+      kind-absent true e = e
+      kind-absent false e = e
 
-still-hello : (at : ℕ) (ps : List (List ℕ)) → Still (helloOf at ps)
-unfolding helloOf
-still-hello at ps =
-    still-pick (eqb (length ps) 2) (greets ps true end) _ (still-greets ps true end)
-    (still-pick (eqb (length ps) 4) _ _ (still-greets ps _ _)
-    (still-pick (eqb (length ps) 5) _ _ (still-greets ps _ _)
-    (still-pick (eqb (length ps) 7) _ (refuse 5) (still-greets ps _ _) tt)))
+  length-head : (j : ℕ) (f : ℕ → Prog Step) → ((n : ℕ) → Head (f n)) → Head (lengthP π j f)
+  length-head j f g = λ c. sized-head j f g (lengthFor π j (take (length c - 2) c))
 
-still-head : (π : Profile) (k : ℕ) → Still (headP π k)
-unfolding headP
-still-head π k =
-    still-pick (eqb k 1 || eqb k 2 || eqb k 10) (textLineP k) _ (λ i j c. refl)
-    (still-pick (eqb k 3) numberP _ (λ c. still-numbered (signed (take (length c - 2) c)))
-    (still-pick (eqb k 7 || eqb k 8) (lengthP π k (bulkP k)) _ (still-length π k (bulkP k) (λ n i j c. refl))
-    (still-pick (eqb k 6 || eqb k 12) (blankP k) _ (λ c. refl)
-    (still-pick (eqb k 5) booleanP _ (λ c. still-judged (boolean (take (length c - 2) c)))
-    (still-pick (eqb k 4) doubleP _ (λ i j c. still-pick (double (take (length c - 2) c)) _ (refuse 3) refl tt)
-    (still-pick (eqb k 9) (lengthP π 9 verbatimP) _ (still-length π 9 verbatimP still-verbatim)
-    (still-pick (eqb k 11) (lengthP π 11 chunkP) _ (still-length π 11 chunkP still-chunk)
-    (still-pick (eqb k 13 || eqb k 14 || eqb k 15 || eqb k 16 || eqb k 17) (holderP π k) _ (still-length π k _ (λ n. refl))
-    (still-pick (eqb k 18) helloP (refuse 1) (λ i j c. still-hello i (parts (take (length c - 2) c))) tt)))))))))
+  verbatim-head : (n : ℕ) → Head (verbatimP n)
+  verbatim-head n =
+      λ f. head-pick (ltb n 4) (refuse 4) _ tt (λ i j c. head-pick (eqb (format (take 3 f)) 0) (refuse 4) _ tt (λ t h e. omega arith))
+
+  chunk-head : (n : ℕ) → Head (chunkP n)
+  chunk-head n = head-pick (eqb n 0) (ret (leaf 12 0 0 0)) (bulkP 11 n) (λ t h e. omega arith) (λ i j c t h e. omega arith)
+
+  greets-head : (ps : List (List ℕ)) (ok : Bool) (f : Forest) → Head (greets ps ok f)
+  greets-head ps ok f =
+      head-pick (is "ELLO" (part ps 0) && ok) _ (refuse 5)
+      (head-pick (is "2" (part ps 1)) (ret (greeting 2 f)) _ (λ t h e. omega arith)
+      (head-pick (is "3" (part ps 1)) (ret (greeting 3 f)) (refuse 5) (λ t h e. omega arith) tt))
+      tt
+
+  hello-head : (at : ℕ) (ps : List (List ℕ)) → Head (helloOf at ps)
+  unfolding helloOf
+  hello-head at ps =
+      head-pick (eqb (length ps) 2) (greets ps true end) _ (greets-head ps true end)
+      (head-pick (eqb (length ps) 4) _ _ (greets-head ps _ _)
+      (head-pick (eqb (length ps) 5) _ _ (greets-head ps _ _)
+      (head-pick (eqb (length ps) 7) _ (refuse 5) (greets-head ps _ _) tt)))
+
+  pub head-says : Head (headP π k)
+  unfolding headP
+  head-says =
+      head-pick (eqb k 1 || eqb k 2 || eqb k 10) (textLineP k) _ (λ i j c t h e. h e)
+      (head-pick (eqb k 3) numberP _ (λ c. numbered-head (signed (take (length c - 2) c)))
+      (head-pick (eqb k 7 || eqb k 8) (lengthP π k (bulkP k)) _ (length-head k (bulkP k) (λ n i j c t h e. h e))
+      (head-pick (eqb k 6 || eqb k 12) (blankP k) _ (λ c t h e. h e)
+      (head-pick (eqb k 5) booleanP _ (λ c. judged-head (boolean (take (length c - 2) c)))
+      (head-pick (eqb k 4) doubleP _ (λ i j c. head-pick (double (take (length c - 2) c)) _ (refuse 3) (λ t h e. omega arith) tt)
+      (head-pick (eqb k 9) (lengthP π 9 verbatimP) _ (length-head 9 verbatimP verbatim-head)
+      (head-pick (eqb k 11) (lengthP π 11 chunkP) _ (length-head 11 chunkP chunk-head)
+      (head-pick (eqb k 13 || eqb k 14 || eqb k 15 || eqb k 16 || eqb k 17) (holderP π k) _ (length-head k _ (λ n t h e. h e))
+      (head-pick (eqb k 18) helloP (refuse 1) (λ i j c. hello-head i (parts (take (length c - 2) c))) tt)))))))))
+
+-- ---- rows
 
 -- After m rows, a program that gives frames asks for their rows.
 abbrev pub Fills : ℕ → Prog Forest → Type 0
@@ -108,7 +137,7 @@ rest-fills p h w (holder k n) =
     weighs-bind (λ f. span f + 1) span (heldP p k n) _ 1 (fills-later (heldP p k n) (held-fills p h k n) 1) (λ f. omega arith)
 
 body-fills : (π : Profile) (p : Prog Forest) → Weighs 0 span p → (w k : ℕ) → Weighs 1 span (bodyP π p w k)
-body-fills π p h w k = weighs-bind (λ st. 1) span (headP π k) (restP p w) 1 (still-head π k) (rest-fills p h w)
+body-fills π p h w k = weighs-bind (λ st. 1) span (headP π k) (restP p w) 1 (says-weighs (Unmarked π k) (headP π k) 1 (head-says π k)) (rest-fills p h w)
 
 annotated-fills : (π : Profile) (p : Prog Forest) → Weighs 0 span p → (w : ℕ) (a : Forest) → Weighs (span a) span (annotatedP π p w a)
 unfolding annotatedP carriesP
@@ -135,3 +164,45 @@ frame-fills π (suc d) = λ c.
 pub decode-fills : (π : Profile) (d : ℕ) → Weighs 0 span (decodeP π d)
 unfolding decodeP
 decode-fills π d = weighs-bind span span (frameP π d) _ 0 (frame-fills π d) (λ f. weighs-pick span (span f) (π .complete && eqb (lastKind f) 19) (refuse 6) (ret f) tt refl)
+
+-- ---- RESP2 has no marker
+
+abbrev NoMarker : Forest → Type 0
+NoMarker f = lastKind f ≡ 19 → ⊥
+
+rest-no-marker : (p : Prog Forest) (w : ℕ) (st : Step) → (stepKind st ≡ 19 → ⊥) → Gives NoMarker (restP p w st)
+unfolding restP lastKind roomsP
+rest-no-marker p w (leaf k a b c) h = h
+rest-no-marker p w (greeting v f) h = rooms (span f)
+  where
+    rooms : (n : ℕ) → Gives NoMarker (roomsP n (ret (item (headOf 18 0 0 v w) f end)))
+    rooms zero = h
+    rooms (suc n) = rooms n
+rest-no-marker p w (holder k n) h = gives-bind (λ f. Unit {0}) NoMarker (heldP p k n) _ (all (heldP p k n)) (λ f t. h)
+  where
+    all : (q : Prog Forest) → Gives (λ f. Unit {0}) q
+    all (ret a) = tt
+    all (refuse j) = tt
+    all (room q) = all q
+    all (here f) = λ i j. all (f i j)
+    all (ask d f) = λ c. all (f c)
+
+pub frame-no-marker : (d : ℕ) → Gives NoMarker (frameP resp2 d)
+unfolding frameP
+frame-no-marker zero = tt
+frame-no-marker (suc d) = λ c.
+    let k = kindOf resp2 (getD c 0 0) in
+    go k (kind-plain (getD c 0 0)) (kind-unmarked resp2 (getD c 0 0))
+  where
+    go : (k : ℕ) → (k ≡ 17 → ⊥) → (k ≡ 19 → ⊥) → Gives NoMarker (pick (eqb k 17) (attributeP resp2 (frameP resp2 d)) (bodyP resp2 (frameP resp2 d) 0 k))
+    go k plain other = gives-else NoMarker (eqb k 17) (attributeP resp2 (frameP resp2 d)) (bodyP resp2 (frameP resp2 d) 0 k) (ne-eqb k 17 plain)
+        (gives-bind (λ st. stepKind st ≡ 19 → ⊥) NoMarker (headP resp2 k) (restP (frameP resp2 d) 0)
+        (mono (headP resp2 k) (says-gives (Unmarked resp2 k) (headP resp2 k) (head-says resp2 k)))
+        (rest-no-marker (frameP resp2 d) 0))
+      where
+        mono : (p : Prog Step) → Gives (Unmarked resp2 k) p → Gives (λ st. stepKind st ≡ 19 → ⊥) p
+        mono (ret a) g = g refl other
+        mono (refuse j) g = tt
+        mono (room p) g = mono p g
+        mono (here f) g = λ i j. mono (f i j) (g i j)
+        mono (ask e f) g = λ c. mono (f c) (g c)

@@ -1,3 +1,4 @@
+-- The definitions, in the order to read them, and then their laws.
 pub mod Demand
 pub mod Prog
 pub mod Text
@@ -11,6 +12,8 @@ pub mod Samples
 pub mod Cells
 pub mod DemandLaws
 pub mod ProgLaws
+pub mod KindsLaws
 pub mod RowsLaws
 pub mod FramesLaws
+pub mod StepLaws
 pub mod DecodeLaws

@@ -291,6 +291,14 @@ Weighs m w (room p) = Weighs (m + 1) w p
 Weighs m w (here k) = (i j : ℕ) → Weighs m w (k i j)
 Weighs m w (ask d k) = (c : List ℕ) → Weighs m w (k c)
 
+-- every value that it can give has a property, and it asks for no row
+abbrev pub Says : {A : Type 0} → (A → Type 0) → Prog A → Type 0
+Says P (ret a) = P a
+Says P (refuse k) = Unit {0}
+Says P (room p) = ⊥
+Says P (here k) = (i j : ℕ) → Says P (k i j)
+Says P (ask d k) = (c : List ℕ) → Says P (k c)
+
 -- what holds of a value, its place and the rows used, where there is one
 abbrev pub When : {A : Type 0} → (A → ℕ → ℕ → Type 0) → Out A → Type 0
 When P (done a n u) = P a n u
@@ -340,13 +348,30 @@ module _ {A : Type 0} where
   weighs-more w (here f) m k g = λ i j. weighs-more w (f i j) m k (g i j)
   weighs-more w (ask d f) m k g = λ c. weighs-more w (f c) m k (g c)
 
+  pub says-gives : (P : A → Type 0) (p : Prog A) → Says P p → Gives P p
+  says-gives P (ret a) h = h
+  says-gives P (refuse k) h = tt
+  says-gives P (room p) h = absurd h
+  says-gives P (here k) h = λ i j. says-gives P (k i j) (h i j)
+  says-gives P (ask d k) h = λ c. says-gives P (k c) (h c)
+
+  pub says-weighs : (P : A → Type 0) (p : Prog A) (m : ℕ) → Says P p → Weighs m (λ a. m) p
+  says-weighs P (ret a) m h = refl
+  says-weighs P (refuse k) m h = tt
+  says-weighs P (room p) m h = absurd h
+  says-weighs P (here k) m h = λ i j. says-weighs P (k i j) m (h i j)
+  says-weighs P (ask d k) m h = λ c. says-weighs P (k c) m (h c)
+
+  pub says-pick : (P : A → Type 0) (b : Bool) (p q : Prog A) → Says P p → Says P q → Says P (pick b p q)
+  says-pick P true p q x y = x
+  says-pick P false p q x y = y
+
   pub weighs-pick : (w : A → ℕ) (m : ℕ) (b : Bool) (p q : Prog A) → Weighs m w p → Weighs m w q → Weighs m w (pick b p q)
   weighs-pick w m true p q x y = x
   weighs-pick w m false p q x y = y
 
-  pub gives-pick : (P : A → Type 0) (b : Bool) (p q : Prog A) → Gives P p → Gives P q → Gives P (pick b p q)
-  gives-pick P true p q x y = x
-  gives-pick P false p q x y = y
+  pub gives-else : (P : A → Type 0) (b : Bool) (p q : Prog A) → b ≡ false → Gives P q → Gives P (pick b p q)
+  gives-else P b p q e g = rw e g
 
 module _ {A B : Type 0} where
   pub weighs-bind : (w : A → ℕ) (v : B → ℕ) (p : Prog A) (f : A → Prog B) (m : ℕ) → Weighs m w p → ((a : A) → Weighs (w a) v (f a)) → Weighs m v (bind p f)

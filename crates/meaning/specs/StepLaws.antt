@@ -1,0 +1,134 @@
+-- One step of a run: what the walks of the decoders are proved by.
+use mathlib.Core.Path.{_≡_, refl, sym, ap, subst, _∙_}
+use mathlib.Core.List.{List, [], _∷_}
+use mathlib.Core.Bool.{Bool, true, false, _&&_, _||_}
+use mathlib.Core.Option.{Option, none, some}
+use Prim.Native.Nat.{ℕ, zero, suc, _+_, _-_, _≤_, _<_}
+use native.Mathlib.Omega.{arith}
+use lib.ListN.{length, take, drop, getD, length-drop}
+use lib.Seq.{drop-cons}
+use lib.Dec.{ltb, leb, eqb}
+use borrow.Author.Tests.{lt-ltb, le-ltb, le-leb, lt-leb, ne-eqb}
+use Rattle.meaning.specs.Demand.{Demand, bytes, line, pick, serves}
+use Rattle.meaning.specs.Prog.{Prog, ret, refuse, room, here, ask, Out, done, refused, unfinished, roomed, served, run, bind}
+use Rattle.meaning.specs.ProgLaws.{then, run-bind}
+use Rattle.meaning.specs.Kinds.{Profile, kindOf}
+use Rattle.meaning.specs.Rows.{Head, headOf, Forest, end, item, join, lastKind, mayHold}
+use Rattle.meaning.specs.Frames.{Step, leaf, greeting, holder, headP, repeat, heldP, roomsP, restP, bodyP, typeP, attributeP, frameP, decodeP}
+
+-- ---- demands
+
+module _ {A : Type 0} (s : List ℕ) (lim at used : ℕ) where
+  pub ask-none : (d : Demand) (k : List ℕ → Prog A) → serves d (drop at s) ≡ none → run (ask d k) s lim at used ≡ unfinished
+  unfolding run
+  ask-none d k e = rw e
+
+  pub ask-some : (d : Demand) (k : List ℕ → Prog A) (n : ℕ) → serves d (drop at s) ≡ some n
+      → run (ask d k) s lim at used ≡ run (k (take n (drop at s))) s lim (at + n) used
+  unfolding run
+  ask-some d k n e = rw e
+
+  -- n bytes that are there, or not
+  pub bytes-there : (n : ℕ) (k : List ℕ → Prog A) → n ≤ length s - at → run (ask (bytes n) k) s lim at used ≡ run (k (take n (drop at s))) s lim (at + n) used
+  unfolding serves
+  bytes-there n k h = ask-some (bytes n) k n (rw (le-leb n (length (drop at s)) (omega (arith, length-drop at s))))
+
+  pub bytes-short : (n : ℕ) (k : List ℕ → Prog A) → length s - at < n → run (ask (bytes n) k) s lim at used ≡ unfinished
+  unfolding serves
+  bytes-short n k h = ask-none (bytes n) k (rw (lt-leb n (length (drop at s)) (omega (arith, length-drop at s))))
+
+  -- a type byte
+  pub type-there : (π : Profile) (f : ℕ → Prog A) → at < length s → run (typeP π f) s lim at used ≡ run (f (kindOf π (getD s at 0))) s lim (at + 1) used
+  type-there π f h = bytes-there 1 _ (omega arith) ∙ rw (drop-cons s at 0 h)
+
+  pub type-short : (π : Profile) (f : ℕ → Prog A) → length s ≤ at → run (typeP π f) s lim at used ≡ unfinished
+  type-short π f h = bytes-short 1 _ (omega arith)
+
+-- ---- values
+
+-- the answer with its value changed
+abbrev pub mapOut : {A B : Type 0} → (A → B) → Out A → Out B
+mapOut f (done a n u) = done (f a) n u
+mapOut f (refused k n) = refused k n
+mapOut f unfinished = unfinished
+
+pub then-ret : {A B : Type 0} (f : A → B) (s : List ℕ) (lim : ℕ) (o : Out A) → then o (λ a n u. run (ret (f a)) s lim n u) ≡ mapOut f o
+unfolding run
+then-ret f s lim (done a n u) = refl
+then-ret f s lim (refused k n) = refl
+then-ret f s lim unfinished = refl
+
+-- ---- a holder's frames
+
+module _ (p : Prog Forest) (s : List ℕ) (lim at used : ℕ) where
+  pub repeat-none : run (repeat 0 p) s lim at used ≡ done end at used
+  unfolding run repeat
+  repeat-none = refl
+
+  -- one frame, and then the others unless it was a marker
+  abbrev pub next : ℕ → Forest → ℕ → ℕ → Out Forest
+  next n f a u = pick (eqb (lastKind f) 19) (refused 6 a) (mapOut (join f) (run (repeat n p) s lim a u))
+
+  pub repeat-more : (n : ℕ) → run (repeat (suc n) p) s lim at used ≡ then (run p s lim at used) (next n)
+  unfolding repeat run
+  repeat-more n = run-bind p _ s lim at used ∙ go (run p s lim at used)
+    where
+      by : (f : Forest) (a u : ℕ) (b : Bool) → run (pick b (refuse 6) (bind (repeat n p) (λ g. ret (join f g)))) s lim a u
+          ≡ pick b (refused 6 a) (mapOut (join f) (run (repeat n p) s lim a u))
+      by f a u true = refl
+      by f a u false = run-bind (repeat n p) (λ g. ret (join f g)) s lim a u ∙ then-ret (join f) s lim (run (repeat n p) s lim a u)
+
+      go : (o : Out Forest) → then o (λ f a u. run (pick (eqb (lastKind f) 19) (refuse 6) (bind (repeat n p) (λ g. ret (join f g)))) s lim a u) ≡ then o (next n)
+      go (done f a u) = by f a u (eqb (lastKind f) 19)
+      go (refused k a) = refl
+      go unfinished = refl
+
+  -- a holder that judges no keys
+  pub holder-run : (w k n : ℕ) → ((f : Forest) → mayHold k f ≡ true)
+      → run (restP p w (holder k n)) s lim at used ≡ mapOut (λ f. item (headOf k 0 0 n w) f end) (run (repeat n p) s lim at used)
+  unfolding restP heldP run
+  holder-run w k n all =
+      run-bind (bind (repeat n p) (λ f. pick (mayHold k f) (ret f) (refuse 8))) _ s lim at used
+      ∙ then-ret (λ f. item (headOf k 0 0 n w) f end) s lim (run (bind (repeat n p) (λ f. pick (mayHold k f) (ret f) (refuse 8))) s lim at used)
+      ∙ ap (mapOut (λ f. item (headOf k 0 0 n w) f end)) (run-bind (repeat n p) _ s lim at used ∙ go (run (repeat n p) s lim at used))
+    where
+      go : (o : Out Forest) → then o (λ f a u. run (pick (mayHold k f) (ret f) (refuse 8)) s lim a u) ≡ o
+      go (done f a u) = rw (all f)
+      go (refused j a) = refl
+      go unfinished = refl
+
+pub array-holds : (f : Forest) → mayHold 13 f ≡ true
+unfolding mayHold
+array-holds f = refl
+
+-- ---- a frame
+
+module _ (π : Profile) (s : List ℕ) (lim at used : ℕ) where
+  pub frame-deep : run (frameP π 0) s lim at used ≡ refused 10 at
+  unfolding run frameP
+  frame-deep = refl
+
+  module _ (d : ℕ) where
+    pub frame-full : lim ≤ used → run (frameP π (suc d)) s lim at used ≡ refused 11 at
+    unfolding run frameP
+    frame-full h = rw (le-ltb used lim h)
+
+    frame-typed : used < lim → run (frameP π (suc d)) s lim at used
+        ≡ run (typeP π (λ k. pick (eqb k 17) (attributeP π (frameP π d)) (bodyP π (frameP π d) 0 k))) s lim at (used + 1)
+    unfolding run frameP
+    frame-typed h = rw (lt-ltb used lim h)
+
+    pub frame-short : used < lim → length s ≤ at → run (frameP π (suc d)) s lim at used ≡ unfinished
+    frame-short h e = frame-typed h ∙ type-short s lim at (used + 1) π (λ k. pick (eqb k 17) (attributeP π (frameP π d)) (bodyP π (frameP π d) 0 k)) e
+
+    -- a frame that is no attribute: its head, and then the rest
+    pub frame-head : used < lim → at < length s → (kindOf π (getD s at 0) ≡ 17 → ⊥)
+        → run (frameP π (suc d)) s lim at used ≡ then (run (headP π (kindOf π (getD s at 0))) s lim (at + 1) (used + 1)) (λ st n u. run (restP (frameP π d) 0 st) s lim n u)
+    frame-head h e plain =
+        frame-typed h ∙ type-there s lim at (used + 1) π (λ k. pick (eqb k 17) (attributeP π (frameP π d)) (bodyP π (frameP π d) 0 k)) e
+        ∙ rw (ne-eqb (kindOf π (getD s at 0)) 17 plain) (run-bind (headP π (kindOf π (getD s at 0))) (restP (frameP π d) 0) s lim (at + 1) (used + 1))
+
+module _ (p : Prog Forest) (w : ℕ) (s : List ℕ) (lim at used : ℕ) where
+  pub leaf-run : (k a b c : ℕ) → run (restP p w (leaf k a b c)) s lim at used ≡ done (item (headOf k a b c w) end end) at used
+  unfolding run restP
+  leaf-run k a b c = refl

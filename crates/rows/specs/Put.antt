@@ -1,0 +1,36 @@
+-- One row of a table, written and read.
+use mathlib.Core.List.{List, [], _∷_}
+use mathlib.Core.Bool.{_&&_}
+use Prim.Native.Nat.{ℕ, _+_, _*_}
+use lib.Dec.{leb, ltb}
+use lib.ListN.{length, getD}
+use lib.Seq.{sets}
+use Rattle.meaning.specs.Demand.{pick}
+use Rattle.meaning.specs.Rows.{Head, rowWidth}
+use Rattle.rows.specs.declared.Row.{Row}
+
+-- a row's words in their order
+abbrev pub rowWords : Row → List ℕ
+rowWords r = r .kind ∷ r .w1 ∷ r .w2 ∷ r .w3 ∷ r .span ∷ r .note ∷ []
+
+-- a frame's row: its head, and how many rows it takes
+abbrev pub rowOf : Head → ℕ → Row
+rowOf h n = record { kind = h .kind; w1 = h .w1; w2 = h .w2; w3 = h .w3; span = n; note = h .note }
+
+-- the table with a row written; as it was, where it has no such row
+unfoldable pub putRow : List ℕ → ℕ → Row → List ℕ
+putRow t row r =
+    pick (ltb row 4096 && leb (rowWidth * row + rowWidth) (length t)) (sets t (rowWidth * row) (rowWords r)) t
+
+-- the words of a row
+abbrev pub rowAt : List ℕ → ℕ → Row
+rowAt t row =
+    let i = rowWidth * row in
+    record {
+      kind = getD t i 0;
+      w1 = getD t (i + 1) 0;
+      w2 = getD t (i + 2) 0;
+      w3 = getD t (i + 3) 0;
+      span = getD t (i + 4) 0;
+      note = getD t (i + 5) 0;
+    }

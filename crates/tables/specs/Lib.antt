@@ -1,0 +1,3 @@
+-- What the contracts of the tables cite, and its laws.
+pub mod Tables
+pub mod TableLaws
