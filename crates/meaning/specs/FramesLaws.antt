@@ -14,7 +14,7 @@ use Rattle.meaning.specs.ProgLaws.{Says, says-pick, says-weighs, says-gi
 use Rattle.meaning.specs.Text.{Num, bad, plus, minus, signed, Length, wrong, count, minusOne, double, boolean, format, parts, is}
 use borrow.Author.Tests.{ne-eqb}
 use Rattle.meaning.specs.Kinds.{Profile, resp2, kindOf, mayCarry}
-use Rattle.meaning.specs.KindsLaws.{kind-plain, kind-unmarked}
+use Rattle.meaning.specs.KindsLaws.{kind2-elim}
 use Rattle.meaning.specs.Rows.{headOf, Forest, end, item, join, lastKind, mayHold, span}
 use Rattle.meaning.specs.RowsLaws.{span-join}
 use Rattle.meaning.specs.Frames.{Step, leaf, greeting, holder, textLineP, numberP, numbered, sized, absent, lengthFor, lengthP, bulkP, blankP, booleanP, judged, doubleP, verbatimP, chunkP, part, greets, authFields, fieldOf, helloOf, helloP, holderP, headP, repeat, heldP, roomsP, restP, bodyP, typeP, carriesP, annotatedP, attributeP, frameP, decodeP}
@@ -192,7 +192,8 @@ unfolding frameP
 frame-no-marker zero = tt
 frame-no-marker (suc d) = λ c.
     let k = kindOf resp2 (getD c 0 0) in
-    go k (kind-plain (getD c 0 0)) (kind-unmarked resp2 (getD c 0 0))
+    go k (kind2-elim (λ k. k ≡ 17 → ⊥) (λ e. omega arith) (λ e. omega arith) (λ e. omega arith) (λ e. omega arith) (λ e. omega arith) (λ e. omega arith) (getD c 0 0))
+    (kind2-elim (λ k. k ≡ 19 → ⊥) (λ e. omega arith) (λ e. omega arith) (λ e. omega arith) (λ e. omega arith) (λ e. omega arith) (λ e. omega arith) (getD c 0 0))
   where
     go : (k : ℕ) → (k ≡ 17 → ⊥) → (k ≡ 19 → ⊥) → Gives NoMarker (pick (eqb k 17) (attributeP resp2 (frameP resp2 d)) (bodyP resp2 (frameP resp2 d) 0 k))
     go k plain other = gives-else NoMarker (eqb k 17) (attributeP resp2 (frameP resp2 d)) (bodyP resp2 (frameP resp2 d) 0 k) (ne-eqb k 17 plain)

@@ -17,3 +17,4 @@ pub mod RowsLaws
 pub mod FramesLaws
 pub mod StepLaws
 pub mod DecodeLaws
+pub mod DigitLaws

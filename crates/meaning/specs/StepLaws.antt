@@ -9,7 +9,7 @@ use lib.ListN.{length, take, drop, getD, length-drop}
 use lib.Seq.{drop-cons}
 use lib.Dec.{ltb, leb, eqb}
 use borrow.Author.Tests.{lt-ltb, le-ltb, le-leb, lt-leb, ne-eqb}
-use Rattle.meaning.specs.Demand.{Demand, bytes, line, pick, serves}
+use Rattle.meaning.specs.Demand.{Demand, bytes, pick, serves}
 use Rattle.meaning.specs.Prog.{Prog, ret, refuse, room, here, ask, Out, done, refused, unfinished, roomed, served, run, bind}
 use Rattle.meaning.specs.ProgLaws.{then, run-bind}
 use Rattle.meaning.specs.Kinds.{Profile, kindOf}

@@ -1,0 +1,3 @@
+pub mod Shows
+pub mod Steps
+pub mod Limits

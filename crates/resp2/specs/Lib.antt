@@ -1,0 +1,2 @@
+-- What the parts of the RESP2 decoder promise.
+pub mod Heads

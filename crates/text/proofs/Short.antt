@@ -1,0 +1,105 @@
+-- At most 18 digits and then CR LF, read in one pass.
+use mathlib.Core.Path.{_≡_, refl, sym, ap, _∙_}
+use mathlib.Core.List.{List, [], _∷_}
+use mathlib.Core.Bool.{Bool, true, false, _&&_}
+use mathlib.Core.Option.{none, some}
+use Prim.Native.Nat.{ℕ, suc, _+_, _-_, _*_, _^_, _≤_, _<_}
+use native.Mathlib.Omega.{arith}
+use native.Mathlib.Nat.{pow-suc, pow-le-pow-right}
+use lib.ListN.{length, take, drop, getD}
+use lib.Dec.{leb}
+use borrow.Author.Tests.{ne-eqb, lt-ltb, leb-true}
+use Rattle.meaning.specs.Demand.{pick, lineLen}
+use Rattle.meaning.specs.Text.{digits, digitsFrom, plus, signed, count, plainLength, lengthOf, is, codes, same}
+use Rattle.text.specs.Lines.{Clear, foundOf}
+use Rattle.text.specs.Numbers.{lengthFor, ShortLine}
+use Rattle.text.proofs.Lines.{clear-none, clear-more, passed, line-here, found-some}
+use Rattle.text.proofs.Numbers.{begin, at-digit, at-end}
+
+-- from `at` up to i stand digits worth v, few enough that v is below 10^18
+pub record Read (s : List ℕ) (at i v : ℕ) : Type 0 where
+  pub from : at ≤ i
+  pub within : i ≤ length s
+  pub few : i ≤ at + 18
+  pub small : v < 10 ^ (i - at)
+  pub clear : Clear s at i
+  pub worth : (to : ℕ) → i ≤ to → to ≤ length s → digitsFrom 0 (take (to - at) (drop at s)) ≡ digitsFrom v (take (to - i) (drop i s))
+
+pub read-none : (s : List ℕ) (at : ℕ) → at ≤ length s → Read s at at 0
+read-none s at h =
+    let z : at - at ≡ 0 = omega arith in
+    record {
+      from = omega arith;
+      within = h;
+      few = omega arith;
+      small = rw z (omega arith);
+      clear = clear-none s at at refl;
+      worth = λ to a b. refl;
+    }
+
+module _ (s : List ℕ) (at i v : ℕ) (r : Read s at i v) where
+  pub read-below : (k : ℕ) → i - at ≤ k → v < 10 ^ k
+  read-below k h = omega (arith, r .small, pow-le-pow-right {n = 10} (omega arith) h)
+
+  pub read-more : (d : ℕ) → i < length s → i < at + 18 → 48 ≤ getD s i 0 → getD s i 0 ≤ 57 → d ≡ getD s i 0 - 48 → Read s at (i + 1) (v * 10 + d)
+  read-more d h few p q e =
+      let up : at ≤ i = r .from in
+      let z : i + 1 - at ≡ suc (i - at) = omega arith in
+      record {
+        from = omega arith;
+        within = omega arith;
+        few = omega arith;
+        small = rw (z, pow-suc 10 (i - at)) (omega (arith, r .small));
+        clear = clear-more s at i (i + 1) (r .clear) (λ c. omega arith) refl;
+        worth = λ to a b. r .worth to (omega arith) b ∙ at-digit s i to v (omega arith) b p q ∙ rw e;
+      }
+
+  pub read-done : at < i → i + 1 < length s → getD s i 0 ≡ 13 → getD s (i + 1) 0 ≡ 10 → ShortLine s at v (i + 2)
+  read-done one h cr lf =
+      let f = found-some at (i + 2) (lineLen (drop at s)) (sym (passed s at i (r .within) (r .clear) ∙ ap (foundOf i) (line-here s i h cr lf))) in
+      let n = f .0 in
+      let t = f .2 in
+      let z : n - 2 ≡ i - at = omega arith in
+      record {
+        n = n;
+        ends = f .1;
+        to = t;
+        worth = rw z (begin s at i one (r .within) ∙ r .worth i (omega arith) (r .within) ∙ at-end s i i v refl);
+        small = read-below 18 (omega (arith, r .few));
+      }
+
+-- ---- such a text is the same as a plain length, a signed length and a Number
+
+first-digit : (c v : ℕ) (r : List ℕ) → digits (c ∷ r) ≡ some v → (48 ≤ c) × (c ≤ 57)
+unfolding digits digitsFrom
+first-digit c v r e = go (leb 48 c) (leb c 57) refl refl e
+  where
+    go : (a b : Bool) → leb 48 c ≡ a → leb c 57 ≡ b → pick (a && b) (digitsFrom (0 * 10 + (c - 48)) r) none ≡ some v → (48 ≤ c) × (c ≤ 57)
+    go true true p q e = (leb-true 48 c p, leb-true c 57 q)
+    go true false p q e = let z : _≡_ {A = ℕ} 0 1 = cc in absurd (omega arith)
+    go false b p q e = let z : _≡_ {A = ℕ} 0 1 = cc in absurd (omega arith)
+
+module _ (v : ℕ) (small : v < 10 ^ 18) where
+  pub short-signed : (l : List ℕ) → digits l ≡ some v → signed l ≡ plus v
+  unfolding signed digits
+  short-signed [] e = let z : _≡_ {A = ℕ} 0 1 = cc in absurd (omega arith)
+  short-signed (c ∷ r) e =
+      let d = first-digit c v r e in
+      rw (ne-eqb c 43 (λ z. omega arith), ne-eqb c 45 (λ z. omega arith), e, lt-ltb v (2 ^ 63) (omega arith))
+
+  short-plain : (l : List ℕ) → digits l ≡ some v → plainLength l ≡ count v
+  unfolding plainLength digits
+  short-plain [] e = let z : _≡_ {A = ℕ} 0 1 = cc in absurd (omega arith)
+  short-plain (c ∷ r) e =
+      let d = first-digit c v r e in
+      rw (ne-eqb c 43 (λ z. omega arith), e, lt-ltb v (2 ^ 64) (omega arith))
+
+  no-mark : (l : List ℕ) (three : Bool) → digits l ≡ some v → (three && is "?" l) ≡ false
+  unfolding digits codes same
+  no-mark [] three e = let z : _≡_ {A = ℕ} 0 1 = cc in absurd (omega arith)
+  no-mark (c ∷ r) false e = refl
+  no-mark (c ∷ r) true e = let d = first-digit c v r e in rw (ne-eqb c 63 (λ z. omega arith))
+
+  pub short-length : (plain three : Bool) (l : List ℕ) → digits l ≡ some v → lengthFor plain three l ≡ count v
+  short-length true three l e = short-plain l e
+  short-length false three l e = rw (no-mark l three e) (ap lengthOf (short-signed l e))

@@ -1,0 +1,28 @@
+-- `text::number::length_said` meets its contract.
+use mathlib.Core.Path.{sym, ap}
+use borrow.Author.Needs.{needs}
+use Rattle.text.specs.Numbers.{lengthLineOf}
+use Rattle.text.proofs.number.length_said.Statement.{statement}
+use Rattle.text.proofs.number.length_said.Tie as tie
+
+enum-known-n : tie.Need-enum-known-n
+enum-known-n c = search needs
+
+enum-told : tie.Need-enum-told
+enum-told c = search needs
+
+enum-told-2 : tie.Need-enum-told-2
+enum-told-2 c = search needs
+
+returns : tie.Need-returns
+returns c = sym (ap (lengthLineOf (c .before .before .before .args .next)) (c .before .n .given .1))
+
+returns-2 : tie.Need-returns-2
+returns-2 c = sym (ap (lengthLineOf (c .before .before .args .next)) (c .enum-told .given .1))
+
+returns-3 : tie.Need-returns-3
+returns-3 c = sym (ap (lengthLineOf (c .before .before .args .next)) (c .enum-told2 .given .1))
+
+pub length-said-spec : {M : Type 1} → statement M
+length-said-spec =
+    tie.close (tie.spec enum-known-n enum-told enum-told-2 returns returns-2 returns-3)

@@ -1,0 +1,89 @@
+// The end of a line.
+ghost use mathlib.Core.Path.{_≡_};
+ghost use mathlib.Core.Bool.{false};
+ghost use Prim.Native.Nat.{_+_, _≤_};
+ghost use lib.ListN.{length, drop};
+ghost use Rattle.meaning.specs.Demand.{lineLen};
+ghost use Rattle.text.specs.Lines.{Clear, FirstCr, foundOf};
+
+// Where a line ends: the place after its CR LF.
+pub enum Found {
+    Next(usize),
+    More,
+}
+
+// Whether one of the 64 bytes at i is a CR. No way out of the turn: it is compiled to vector code.
+fn block_has_cr(s: &[u8], i: usize) -> bool
+    requires { ⌜ i + 64 ≤ length (now s) ⌝ }
+    ensures { λ r. ⌜ (r ≡ false → Clear (now (s .entry)) i (i + 64)) ⌝ }
+{
+    let mut hit = false;
+    for k in 0usize..64 {
+        hit = hit | (s[i + k] == 13);
+    }
+    hit
+}
+
+// Past the blocks of 64 bytes that hold no CR.
+fn past_blocks(s: &[u8], from: usize) -> usize
+    requires { ⌜ from ≤ length (now s) ⌝ }
+    ensures { λ r. ⌜ Clear (now (s .entry)) from r × (r ≤ length (now (s .entry))) ⌝ }
+{
+    let mut i = from;
+    while 64 <= s.len() - i {
+        if block_has_cr(s, i) {
+            return i;
+        }
+        i = i + 64;
+    }
+    i
+}
+
+// The first CR from `from` to `end`, or `end`.
+fn cr_before(s: &[u8], from: usize, end: usize) -> usize
+    requires { ⌜ (from ≤ end) × (end ≤ length (now s)) ⌝ }
+    ensures { λ r. ⌜ FirstCr (now (s .entry)) from end r ⌝ }
+{
+    let mut i = from;
+    while i < end {
+        if s[i] == 13 {
+            return i;
+        }
+        i = i + 1;
+    }
+    i
+}
+
+// The first CR from `from` on, or the end. The first 32 bytes are looked at one by one, so that a short line pays for no block.
+fn next_cr(s: &[u8], from: usize) -> usize
+    requires { ⌜ from ≤ length (now s) ⌝ }
+    ensures { λ r. ⌜ FirstCr (now (s .entry)) from (length (now (s .entry))) r ⌝ }
+{
+    let n = s.len();
+    if n - from <= 32 {
+        return cr_before(s, from, n);
+    }
+    let near = cr_before(s, from, from + 32);
+    if near < from + 32 {
+        return near;
+    }
+    cr_before(s, past_blocks(s, near), n)
+}
+
+// The line that starts at `from`. A CR that no LF follows is passed over.
+pub fn line_end(s: &[u8], from: usize) -> Found
+    requires { ⌜ from ≤ length (now s) ⌝ }
+    ensures { λ r. ⌜ r ≡ foundOf from (lineLen (drop from (now (s .entry)))) ⌝ }
+{
+    let mut i = from;
+    loop {
+        let c = next_cr(s, i);
+        if s.len() - c < 2 {
+            break Found::More;
+        }
+        if s[c + 1] == 10 {
+            break Found::Next(c + 2);
+        }
+        i = c + 1;
+    }
+}
