@@ -8,12 +8,14 @@ use native.Mathlib.Omega.{arith}
 use lib.ListN.{length, take, drop, getD, length-drop}
 use lib.Seq.{drop-cons}
 use lib.Dec.{ltb, leb, eqb}
-use borrow.Author.Tests.{lt-ltb, le-ltb, le-leb, lt-leb, ne-eqb}
+use borrow.Author.Tests.{lt-ltb, le-ltb, le-leb, lt-leb, ne-eqb, ltb-true, ltb-false}
 use Rattle.meaning.specs.Demand.{Demand, bytes, pick, serves}
 use Rattle.meaning.specs.Prog.{Prog, ret, refuse, room, here, ask, Out, done, refused, unfinished, roomed, served, run, bind}
 use Rattle.meaning.specs.ProgLaws.{then, run-bind}
-use Rattle.meaning.specs.Kinds.{Profile, kindOf}
+use Rattle.meaning.specs.Kinds.{Profile, resp2, kindOf}
+use Rattle.meaning.specs.KindsLaws.{kind2-elim}
 use Rattle.meaning.specs.Rows.{Head, headOf, Forest, end, item, join, lastKind, mayHold}
+use Rattle.meaning.specs.Decode.{Answer, answer, depthLimit, outcome, decode}
 use Rattle.meaning.specs.Frames.{Step, leaf, greeting, holder, headP, repeat, heldP, roomsP, restP, bodyP, typeP, attributeP, frameP, decodeP}
 
 -- ---- demands
@@ -118,17 +120,49 @@ module _ (π : Profile) (s : List ℕ) (lim at used : ℕ) where
     unfolding run frameP
     frame-typed h = rw (lt-ltb used lim h)
 
-    pub frame-short : used < lim → length s ≤ at → run (frameP π (suc d)) s lim at used ≡ unfinished
-    frame-short h e = frame-typed h ∙ type-short s lim at (used + 1) π (λ k. pick (eqb k 17) (attributeP π (frameP π d)) (bodyP π (frameP π d) 0 k)) e
+-- In RESP2, which has no attributes: a frame's head, and then the rest.
+pub frame-run : (s : List ℕ) (lim at used d : ℕ) → used < lim
+    → run (frameP resp2 (suc d)) s lim at used ≡ then (run (typeP resp2 (headP resp2)) s lim at (used + 1)) (λ st n u. run (restP (frameP resp2 d) 0 st) s lim n u)
+unfolding bind
+frame-run s lim at used d h =
+    frame-typed resp2 s lim at used d h ∙ go (ltb at (length s)) refl ∙ run-bind (typeP resp2 (headP resp2)) (restP (frameP resp2 d) 0) s lim at (used + 1)
+  where
+    choice : ℕ → Prog Forest
+    choice k = pick (eqb k 17) (attributeP resp2 (frameP resp2 d)) (bodyP resp2 (frameP resp2 d) 0 k)
 
-    -- a frame that is no attribute: its head, and then the rest
-    pub frame-head : used < lim → at < length s → (kindOf π (getD s at 0) ≡ 17 → ⊥)
-        → run (frameP π (suc d)) s lim at used ≡ then (run (headP π (kindOf π (getD s at 0))) s lim (at + 1) (used + 1)) (λ st n u. run (restP (frameP π d) 0 st) s lim n u)
-    frame-head h e plain =
-        frame-typed h ∙ type-there s lim at (used + 1) π (λ k. pick (eqb k 17) (attributeP π (frameP π d)) (bodyP π (frameP π d) 0 k)) e
-        ∙ rw (ne-eqb (kindOf π (getD s at 0)) 17 plain) (run-bind (headP π (kindOf π (getD s at 0))) (restP (frameP π d) 0) s lim (at + 1) (used + 1))
+    plain : (k : ℕ) → (k ≡ 17 → ⊥) → choice k ≡ bind (headP resp2 k) (restP (frameP resp2 d) 0)
+    plain k e = rw (ne-eqb k 17 e)
+
+    other : kindOf resp2 (getD s at 0) ≡ 17 → ⊥
+    other = kind2-elim (λ k. k ≡ 17 → ⊥) (λ e. omega arith) (λ e. omega arith) (λ e. omega arith) (λ e. omega arith) (λ e. omega arith) (λ e. omega arith) (getD s at 0)
+
+    go : (b : Bool) → ltb at (length s) ≡ b → run (typeP resp2 choice) s lim at (used + 1) ≡ run (bind (typeP resp2 (headP resp2)) (restP (frameP resp2 d) 0)) s lim at (used + 1)
+    go true e =
+        let lt : at < length s = ltb-true at (length s) e in
+        type-there s lim at (used + 1) resp2 choice lt
+        ∙ ap (λ (p : Prog Forest). run p s lim (at + 1) (used + 1)) (plain (kindOf resp2 (getD s at 0)) other)
+        ∙ sym (type-there s lim at (used + 1) resp2 (λ k. bind (headP resp2 k) (restP (frameP resp2 d) 0)) lt)
+    go false e =
+        let le : length s ≤ at = ltb-false at (length s) e in
+        type-short s lim at (used + 1) resp2 choice le ∙ sym (type-short s lim at (used + 1) resp2 (λ k. bind (headP resp2 k) (restP (frameP resp2 d) 0)) le)
 
 module _ (p : Prog Forest) (w : ℕ) (s : List ℕ) (lim at used : ℕ) where
   pub leaf-run : (k a b c : ℕ) → run (restP p w (leaf k a b c)) s lim at used ≡ done (item (headOf k a b c w) end end) at used
   unfolding run restP
   leaf-run k a b c = refl
+
+-- ---- a whole call
+
+-- a frame, and then a marker is refused where the decoder is complete
+pub decode-run : (π : Profile) (d : ℕ) (s : List ℕ) (lim at used : ℕ)
+    → run (decodeP π d) s lim at used ≡ then (run (frameP π d) s lim at used) (λ f n u. run (pick (π .complete && eqb (lastKind f) 19) (refuse 6) (ret f)) s lim n u)
+unfolding decodeP
+decode-run π d s lim at used = run-bind (frameP π d) (λ f. pick (π .complete && eqb (lastKind f) 19) (refuse 6) (ret f)) s lim at used
+
+pub outcome-run : (π : Profile) (lim : ℕ) (s : List ℕ) → outcome π lim s ≡ run (decodeP π depthLimit) s lim 0 0
+unfolding outcome
+outcome-run π lim s = refl
+
+pub answer-outcome : (π : Profile) (lim : ℕ) (s : List ℕ) → decode π lim s ≡ answer (outcome π lim s)
+unfolding decode
+answer-outcome π lim s = refl

@@ -1,1 +1,3 @@
 mod Heads
+mod Walks
+mod Tops

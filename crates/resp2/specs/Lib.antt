@@ -1,2 +1,4 @@
 -- What the parts of the RESP2 decoder promise.
 pub mod Heads
+pub mod Walks
+pub mod Tops

@@ -1,0 +1,6 @@
+mod Ranges
+mod Words
+mod Doubles
+mod Parts
+mod Greetings
+mod Options
