@@ -1,6 +1,6 @@
 // The RESP2 decoder: one frame from the front of a buffer, into rows that the caller lends.
-pub mod head;
-pub mod walk;
+mod head;
+mod walk;
 
 use crate::head::Head;
 use crate::walk::Walk;
