@@ -4,30 +4,35 @@ use mathlib.Core.List.{List, [], _∷_, _++_}
 use mathlib.Core.Bool.{Bool, true, false, _&&_}
 use Prim.Native.Nat.{ℕ, zero, suc, _+_, _*_, _≤_, _<_}
 use native.Mathlib.Omega.{arith}
-use lib.ListN.{length}
+use lib.ListN.{length, getD}
 use lib.Seq.{sets}
 use lib.Dec.{eqb}
 use borrow.Author.Tests.{ne-eqb}
 use Rattle.meaning.specs.Demand.{pick}
-use Rattle.meaning.specs.Prog.{ret, refuse, run, Out, done, refused, unfinished}
-use Rattle.meaning.specs.ProgLaws.{then, When, gives-run}
-use Rattle.meaning.specs.Kinds.{resp2}
+use Rattle.meaning.specs.Prog.{Prog, ret, refuse, bind, run, Out, done, refused, unfinished}
+use Rattle.meaning.specs.ProgLaws.{then, When, Within, Bounded, bounded, run-bind, gives-run}
+use Rattle.meaning.specs.Kinds.{resp2, kindOf}
 use Rattle.meaning.specs.Rows.{headOf, Forest, end, item, lastKind, words, rowWidth, rowsIn}
-use Rattle.meaning.specs.Frames.{holder, restP, frameP, headP, typeP}
+use Rattle.meaning.specs.Frames.{Step, holder, holderP, restP, frameP, headP}
 use Rattle.meaning.specs.FramesLaws.{frame-no-marker}
 use Rattle.meaning.specs.Decode.{answer, outcome, decode}
-use Rattle.meaning.specs.StepLaws.{decode-run, outcome-run, answer-outcome}
+use Rattle.meaning.specs.StepLaws.{decode-run, outcome-run, answer-outcome, frame-run, type-there, leaf-run}
 use Rattle.answers.specs.Answers.{answerOf, tableAfter, Decoded}
 use Rattle.answers.specs.declared.Answer.{Answer}
 use Rattle.answers.specs.declared.Answer.the-variants as Answer
 use Rattle.rows.specs.Put.{putRow}
-use Rattle.resp2.specs.Heads.{Heads}
-use Rattle.resp2.specs.Walks.{walkOf, Wrote, Walks}
-use Rattle.resp2.specs.Tops.{answerAs, arrayOut, rowsAfter, Filled}
+use Rattle.resp2.specs.Heads.{Heads, outHead, leafP}
+use Rattle.resp2.specs.Walks.{walkOf, Wrote, Walks, Placed, LeafRow}
+use Rattle.resp2.specs.Tops.{answerAs, arrayOut, topOut, rowsAfter, Filled, ArrayTop}
+use Rattle.resp2.specs.declared.head.Head.{Head}
 use Rattle.resp2.specs.declared.head.Head.the-variants as Head
+use Rattle.leaf.specs.Leaves.{Reads, outLeaf}
+use Rattle.leaf.specs.declared.Leaf.{Leaf}
+use Rattle.leaf.specs.declared.Leaf.the-variants as Leaf
+use Rattle.resp2.proofs.Heads.{no-byte, leaf-kind, array-kind}
 use Rattle.resp2.specs.declared.walk.Walk.{Walk}
 use Rattle.resp2.specs.declared.walk.Walk.the-variants as Walk
-use Rattle.resp2.proofs.Walks.{done-run, refused-run, unfinished-run, leaf-row, frame-no-room, frame-refused, frame-unfinished, frame-leaf, frame-array}
+use Rattle.resp2.proofs.Walks.{done-run, refused-run, unfinished-run, leaf-row, frame-no-room, frame-unfinished}
 
 -- ---- an array
 
@@ -100,24 +105,76 @@ module _ (s t₀ t₁ : List ℕ) (lim : ℕ) (e : lim ≡ rowsIn (length t₀))
       ap (λ (n : ℕ). decode resp2 n s) (sym e) ∙ answer-outcome resp2 lim s ∙ ap answer (frame-outcome s lim ∙ q) in
       record { says = says ∙ says-alike o h ∙ ap answerOf (sym m); leaves = leaves ∙ leaves-alike t₀ o h ∙ ap (tableAfter t₀) (sym m) }
 
+-- ---- a top frame, kind by kind
+
+pub array-next : (s : List ℕ) (n m : ℕ) → 1 ≤ length s → Heads (holderP resp2 13) s 1 (Head.Array n m) → m ≤ length s
+array-next s n m h w =
+    let b : Within s 0 1 0 m 0 = subst (λ (o : Out Step). Bounded s 0 1 0 o) (w .means 0 0) (bounded (holderP resp2 13) s 0 1 0 h (omega arith)) in
+    b .to
+
+-- an array's head, by its answer
+module _ (s t₀ : List ℕ) (lim : ℕ) where
+  by-head : (h : Head) → Heads (holderP resp2 13) s 1 h → topOut s lim ≡ then (outHead 1 h) (λ st n u. run (restP (frameP resp2 31) 0 st) s lim n u)
+  by-head h w =
+      run-bind (holderP resp2 13) (restP (frameP resp2 31) 0) s lim 1 1
+      ∙ ap (λ (o : Out Step). then o (λ st n u. run (restP (frameP resp2 31) 0 st) s lim n u)) (w .means lim 1)
+
+  array-top : (t₁ : List ℕ) (r : Answer) (o : Out Forest) → topOut s lim ≡ o → r ≡ answerAs (walkOf o) → t₁ ≡ rowsAfter t₀ o → ArrayTop s lim t₀ t₁ r
+  array-top t₁ r o q says leaves = record { says = says ∙ ap (λ (x : Out Forest). answerAs (walkOf x)) (sym q); leaves = leaves ∙ ap (rowsAfter t₀) (sym q) }
+
+  pub top-refused : (k a : ℕ) → Heads (holderP resp2 13) s 1 (Head.Refused k a) → ArrayTop s lim t₀ t₀ (Answer.Refused k)
+  top-refused k a w = array-top t₀ (Answer.Refused k) (refused k a) (by-head (Head.Refused k a) w) refl refl
+
+  pub top-unfinished : Heads (holderP resp2 13) s 1 Head.Unfinished → ArrayTop s lim t₀ t₀ Answer.Unfinished
+  top-unfinished w = array-top t₀ Answer.Unfinished unfinished (by-head Head.Unfinished w) refl refl
+
+  pub top-filled : (n m : ℕ) (t₁ : List ℕ) (r : Answer) → Heads (holderP resp2 13) s 1 (Head.Array n m) → Filled n s lim m t₀ t₁ r → ArrayTop s lim t₀ t₁ r
+  top-filled n m t₁ r w f = array-top t₁ r (arrayOut n s lim m) (by-head (Head.Array n m) w) (f .says) (f .leaves)
+
+  pub top-null : (k a b c m : ℕ) (t₁ : List ℕ) → lim ≡ rowsIn (length t₀) → 0 < lim → Heads (holderP resp2 13) s 1 (Head.Leaf k a b c m)
+      → t₁ ≡ putRow t₀ 0 (record { kind = k; w1 = a; w2 = b; w3 = c; span = 1; note = 0 }) → ArrayTop s lim t₀ t₁ (Answer.Frame m 1)
+  top-null k a b c m t₁ e one w q =
+      array-top t₁ (Answer.Frame m 1) (done (item (headOf k a b c 0) end end) m 1)
+      (by-head (Head.Leaf k a b c m) w ∙ leaf-run (frameP resp2 31) 0 s lim m 1 k a b c) refl
+      (q ∙ leaf-row t₀ 0 lim k a b c (omega arith) (omega arith) (omega arith))
+
 module _ (s t₀ : List ℕ) (lim : ℕ) (e : lim ≡ rowsIn (length t₀)) where
   pub no-row : lim ≡ 0 → Decoded resp2 s t₀ t₀ (Answer.Refused 11)
   no-row z = decoded s t₀ t₀ lim e (Answer.Refused 11) (refused 11 0) (frame-no-room s lim 0 0 32 (λ q. omega arith) (omega arith)) refl refl
 
   module _ (one : lim ≡ 0 → ⊥) where
-    pub top-refused : (k a : ℕ) → Heads (typeP resp2 (headP resp2)) s 0 (Head.Refused k a) → Decoded resp2 s t₀ t₀ (Answer.Refused k)
-    top-refused k a w = decoded s t₀ t₀ lim e (Answer.Refused k) (refused k a) (frame-refused s lim 0 0 32 (λ q. omega arith) (omega arith) k a w) refl refl
+    pub no-bytes : length s ≡ 0 → Decoded resp2 s t₀ t₀ Answer.Unfinished
+    no-bytes z =
+        decoded s t₀ t₀ lim e Answer.Unfinished unfinished
+        (frame-unfinished s lim 0 0 32 (λ q. omega arith) (omega arith) (no-byte s 0 (omega arith))) refl refl
 
-    pub top-unfinished : Heads (typeP resp2 (headP resp2)) s 0 Head.Unfinished → Decoded resp2 s t₀ t₀ Answer.Unfinished
-    top-unfinished w = decoded s t₀ t₀ lim e Answer.Unfinished unfinished (frame-unfinished s lim 0 0 32 (λ q. omega arith) (omega arith) w) refl refl
+    -- a frame's run, by its type byte
+    top-run : (p : Prog Step) → 0 < length s → headP resp2 (kindOf resp2 (getD s 0 0)) ≡ p
+        → run (frameP resp2 32) s lim 0 0 ≡ run (bind p (restP (frameP resp2 31) 0)) s lim 1 1
+    top-run p h q =
+        frame-run s lim 0 0 31 (omega arith)
+        ∙ ap (λ (o : Out Step). then o (λ st n u. run (restP (frameP resp2 31) 0 st) s lim n u))
+        (type-there s lim 0 1 resp2 (headP resp2) h ∙ ap (λ (x : Prog Step). run x s lim 1 1) q)
+        ∙ sym (run-bind p (restP (frameP resp2 31) 0) s lim 1 1)
 
-    pub top-leaf : (k a b c m : ℕ) (t₁ : List ℕ) → Heads (typeP resp2 (headP resp2)) s 0 (Head.Leaf k a b c m)
-        → t₁ ≡ putRow t₀ 0 (record { kind = k; w1 = a; w2 = b; w3 = c; span = 1; note = 0 }) → Decoded resp2 s t₀ t₁ (Answer.Frame m 1)
-    top-leaf k a b c m t₁ w q =
-        decoded s t₀ t₁ lim e (Answer.Frame m 1) (done (item (headOf k a b c 0) end end) m 1)
-        (frame-leaf s lim 0 0 32 (λ q. omega arith) (omega arith) k a b c m w) refl
-        (q ∙ leaf-row t₀ 0 lim k a b c (omega arith) (omega arith) (omega arith))
+    pub at-array : (t₁ : List ℕ) (r : Answer) → 0 < length s → kindOf resp2 (getD s 0 0) ≡ 13 → ArrayTop s lim t₀ t₁ r → Decoded resp2 s t₀ t₁ r
+    at-array t₁ r h k a = decoded s t₀ t₁ lim e r (topOut s lim) (top-run (holderP resp2 13) h (array-kind (getD s 0 0) k)) (a .says) (a .leaves)
 
-    pub top-array : (n m : ℕ) (t₁ : List ℕ) (r : Answer) → Heads (typeP resp2 (headP resp2)) s 0 (Head.Array n m) → Filled n s lim m t₀ t₁ r → Decoded resp2 s t₀ t₁ r
-    top-array n m t₁ r w f =
-        decoded s t₀ t₁ lim e r (arrayOut n s lim m) (frame-array s lim 0 0 32 (λ q. omega arith) (omega arith) n m w) (f .says) (f .leaves)
+    pub at-leaf : (t₁ : List ℕ) (w : Walk) (r : Answer) (k : ℕ) → 0 < length s → k ≡ kindOf resp2 (getD s 0 0) → (k ≡ 13 → ⊥)
+        → LeafRow k s 1 0 t₀ t₁ w → r ≡ answerAs w → Decoded resp2 s t₀ t₁ r
+    at-leaf t₁ w r k h q other l a =
+        go (l .read) (l .reads) (l .placed)
+      where
+        runs : run (frameP resp2 32) s lim 0 0 ≡ then (run (leafP k) s lim 1 1) (λ st n u. run (restP (frameP resp2 31) 0 st) s lim n u)
+        runs = top-run (leafP k) h (leaf-kind (getD s 0 0) (λ z. other (q ∙ z)) ∙ ap leafP (sym q)) ∙ run-bind (leafP k) (restP (frameP resp2 31) 0) s lim 1 1
+
+        by : (x : Leaf) → Reads (leafP k) s 1 x → run (frameP resp2 32) s lim 0 0 ≡ then (outLeaf 1 x) (λ st n u. run (restP (frameP resp2 31) 0 st) s lim n u)
+        by x d = runs ∙ ap (λ (o : Out Step). then o (λ st n u. run (restP (frameP resp2 31) 0 st) s lim n u)) (d .means lim 1)
+
+        go : (x : Leaf) → Reads (leafP k) s 1 x → Placed x 0 t₀ t₁ w → Decoded resp2 s t₀ t₁ r
+        go (Leaf.Row j x y z m) d p =
+            decoded s t₀ t₁ lim e r (done (item (headOf j x y z 0) end end) m 1)
+            (by (Leaf.Row j x y z m) d ∙ leaf-run (frameP resp2 31) 0 s lim m 1 j x y z)
+            (a ∙ ap answerAs (p .says)) (p .leaves ∙ leaf-row t₀ 0 lim j x y z (omega arith) (omega arith) (omega arith))
+        go (Leaf.Refused j m) d p = decoded s t₀ t₁ lim e r (refused j m) (by (Leaf.Refused j m) d) (a ∙ ap answerAs (p .says)) (p .leaves)
+        go Leaf.Unfinished d p = decoded s t₀ t₁ lim e r unfinished (by Leaf.Unfinished d) (a ∙ ap answerAs (p .says)) (p .leaves)

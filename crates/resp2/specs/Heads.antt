@@ -5,9 +5,9 @@ use mathlib.Core.Bool.{_||_}
 use Prim.Native.Nat.{ℕ}
 use lib.Dec.{eqb}
 use Rattle.meaning.specs.Demand.{pick}
-use Rattle.meaning.specs.Prog.{Prog, refuse, run, Out, done, refused, unfinished}
+use Rattle.meaning.specs.Prog.{Prog, ret, refuse, run, Out, done, refused, unfinished}
 use Rattle.meaning.specs.Kinds.{resp2}
-use Rattle.meaning.specs.Frames.{Step, leaf, holder, textLineP, numberP, lengthP, bulkP}
+use Rattle.meaning.specs.Frames.{Step, leaf, holder, textLineP, numberP, lengthP, bulkP, holderP}
 use Rattle.leaf.specs.declared.Leaf.{Leaf}
 use Rattle.leaf.specs.declared.Leaf.the-variants as Leaf
 use Rattle.resp2.specs.declared.head.Head.{Head}
@@ -26,6 +26,14 @@ pub record Heads (p : Prog Step) (s : List ℕ) (at : ℕ) (r : Head) : Type 0 w
 -- what a type byte of RESP2 that is no array's asks for
 abbrev pub leafP : ℕ → Prog Step
 leafP k = pick (eqb k 1) (textLineP 1) (pick (eqb k 2) (textLineP 2) (pick (eqb k 3) numberP (pick (eqb k 7) (lengthP resp2 7 (bulkP 7)) (refuse 1))))
+
+-- what the type byte of a Number, a bulk string or an array asks for
+abbrev pub numericP : ℕ → Prog Step
+numericP k = pick (eqb k 13) (holderP resp2 13) (pick (eqb k 3) numberP (lengthP resp2 7 (bulkP 7)))
+
+-- the same, behind a line of digits worth v
+abbrev pub shortP : ℕ → ℕ → Prog Step
+shortP k v = pick (eqb k 13) (ret (holder 13 v)) (pick (eqb k 3) (ret (leaf 3 v 0 0)) (bulkP 7 v))
 
 -- a leaf's answer as a head's
 abbrev pub headAs : Leaf → Head

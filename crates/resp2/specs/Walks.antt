@@ -1,13 +1,18 @@
 -- What a walk says, and what it leaves in the table.
 use mathlib.Core.Path.{_≡_}
 use mathlib.Core.List.{List}
-use Prim.Native.Nat.{ℕ, _*_, _≤_, _<_}
+use Prim.Native.Nat.{ℕ, _+_, _*_, _≤_, _<_}
 use lib.ListN.{length}
 use lib.Seq.{sets}
 use Rattle.meaning.specs.Prog.{Prog, run, Out, done, refused, unfinished}
 use Rattle.meaning.specs.Kinds.{resp2}
 use Rattle.meaning.specs.Rows.{Forest, words, rowWidth}
 use Rattle.tables.specs.Tables.{IsKinds}
+use Rattle.rows.specs.Put.{putRow}
+use Rattle.leaf.specs.Leaves.{Reads}
+use Rattle.leaf.specs.declared.Leaf.{Leaf}
+use Rattle.leaf.specs.declared.Leaf.the-variants as Leaf
+use Rattle.resp2.specs.Heads.{leafP}
 use Rattle.resp2.specs.declared.walk.Walk.{Walk}
 use Rattle.resp2.specs.declared.walk.Walk.the-variants.{To, Refused, Unfinished}
 
@@ -40,3 +45,24 @@ pub record Inside (s kinds : List ℕ) (lim at used : ℕ) : Type 0 where
   pub few : lim ≤ 4096
   pub one : 0 < used
   pub lent : IsKinds resp2 kinds
+
+-- ---- a leaf and its row
+
+abbrev pub leafWalk : ℕ → Leaf → Walk
+leafWalk row (Leaf.Row k a b c next) = To next (row + 1)
+leafWalk row (Leaf.Refused k n) = Refused k n
+leafWalk row Leaf.Unfinished = Unfinished
+
+abbrev pub leafTable : List ℕ → ℕ → Leaf → List ℕ
+leafTable t row (Leaf.Row k a b c next) = putRow t row (record { kind = k; w1 = a; w2 = b; w3 = c; span = 1; note = 0 })
+leafTable t row (Leaf.Refused k n) = t
+leafTable t row Leaf.Unfinished = t
+
+pub record Placed (l : Leaf) (row : ℕ) (t₀ t₁ : List ℕ) (r : Walk) : Type 0 where
+  pub says : r ≡ leafWalk row l
+  pub leaves : t₁ ≡ leafTable t₀ row l
+
+pub record LeafRow (k : ℕ) (s : List ℕ) (at row : ℕ) (t₀ t₁ : List ℕ) (r : Walk) : Type 0 where
+  pub read : Leaf
+  pub reads : Reads (leafP k) s at read
+  pub placed : Placed read row t₀ t₁ r

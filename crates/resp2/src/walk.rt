@@ -1,10 +1,12 @@
 // A frame, and the frames beneath an array: the two call one another, and the depth that is left falls.
 use crate::head::Head;
+use leaf::Leaf;
 use rows::Row;
-ghost use Prim.Native.Nat.{_-_};
+ghost use Prim.Native.Nat.{_-_, _≤_};
+ghost use lib.ListN.{length};
 ghost use Rattle.meaning.specs.Kinds.{resp2};
 ghost use Rattle.meaning.specs.Frames.{frameP, restP, holder};
-ghost use Rattle.resp2.specs.Walks.{Walks, Start, Inside};
+ghost use Rattle.resp2.specs.Walks.{Walks, Placed, LeafRow, Start, Inside};
 
 pub enum Walk {
     // the place after the frame, and the rows used
@@ -12,6 +14,37 @@ pub enum Walk {
     // document 01's number, and the place that settled it
     Refused(u64, usize),
     Unfinished,
+}
+
+// A leaf's row, where there is one.
+fn place_row(t: &mut [u64], row: usize, l: Leaf) -> Walk
+    requires { ⌜ row ≤ 4096 ⌝ }
+    ensures { λ r. ⌜ Placed l row (now (t .entry)) (now (t .exit)) r ⌝ }
+{
+    match l {
+        Leaf::Row(k, a, b, c, next) => {
+            let own = Row {
+                kind: k,
+                w1: a,
+                w2: b,
+                w3: c,
+                span: 1,
+                note: 0,
+            };
+            rows::put(t, row, own);
+            Walk::To(next, row + 1)
+        }
+        Leaf::Refused(k, place) => Walk::Refused(k, place),
+        Leaf::Unfinished => Walk::Unfinished,
+    }
+}
+
+// A frame of kind k that is no array, behind its type byte, and its row: what a top frame needs that is a leaf.
+pub fn leaf_row(s: &[u8], t: &mut [u64], k: u8, at: usize, row: usize) -> Walk
+    requires { ⌜ (at ≤ length (now s)) × (row ≤ 4096) ⌝ }
+    ensures { λ r. ⌜ LeafRow k (now (s .entry)) at row (now (t .entry)) (now (t .exit)) r ⌝ }
+{
+    place_row(t, row, crate::head::leaf_head(s, k, at))
 }
 
 // An array's n frames, and then its row, which is counted in `used`. `depth`: what is left for the frames.

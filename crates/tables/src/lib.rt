@@ -2,7 +2,7 @@
 ghost use mathlib.Core.Path.{_≡_};
 ghost use Prim.Native.Nat.{_<_};
 ghost use lib.ListN.{getD};
-ghost use Rattle.meaning.specs.Kinds.{resp2, resp3, column, mayKey, mayCarry, hasChildren};
+ghost use Rattle.meaning.specs.Kinds.{resp2, resp3, kindOf, column, mayKey, mayCarry, hasChildren};
 ghost use Rattle.tables.specs.Tables.{IsKinds, IsColumns};
 
 // Indexed by the type byte: its kind in RESP2, 0 where there is none.
@@ -572,6 +572,20 @@ pub fn kind_at(kinds: &[u8; 256], b: u8) -> u8
 {
     let i = b as usize;
     kinds[i]
+}
+
+// The kind of one type byte in RESP2, where no table is lent: the same as the table, which costs 256 bytes on the stack to make.
+pub fn kind2(b: u8) -> u8
+    ensures { λ r. ⌜ r ≡ kindOf resp2 b ⌝ }
+{
+    match b {
+        43 => 1,
+        45 => 2,
+        58 => 3,
+        36 => 7,
+        42 => 13,
+        _ => 0,
+    }
 }
 
 // The columns by value, to be made once and lent to `column_at`.

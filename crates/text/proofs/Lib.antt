@@ -1,4 +1,4 @@
 pub mod Lines
 mod Numbers
 pub mod Runs
-mod Short
+pub mod Short

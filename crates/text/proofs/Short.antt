@@ -12,7 +12,9 @@ use borrow.Author.Tests.{ne-eqb, lt-ltb, leb-true}
 use Rattle.meaning.specs.Demand.{pick, lineLen}
 use Rattle.meaning.specs.Text.{digits, digitsFrom, plus, signed, count, plainLength, lengthOf, is, codes, same}
 use Rattle.text.specs.Lines.{Clear, foundOf}
-use Rattle.text.specs.Numbers.{lengthFor, ShortLine}
+use Rattle.text.specs.Numbers.{lengthFor, lengthLineAt, numberLineAt, ShortLine}
+use Rattle.text.specs.declared.number.LengthLine.the-variants as LengthLine
+use Rattle.text.specs.declared.number.NumberLine.the-variants as NumberLine
 use Rattle.text.proofs.Lines.{clear-none, clear-more, passed, line-here, found-some}
 use Rattle.text.proofs.Numbers.{begin, at-digit, at-end}
 
@@ -103,3 +105,16 @@ module _ (v : ℕ) (small : v < 10 ^ 18) where
   pub short-length : (plain three : Bool) (l : List ℕ) → digits l ≡ some v → lengthFor plain three l ≡ count v
   short-length true three l e = short-plain l e
   short-length false three l e = rw (no-mark l three e) (ap lengthOf (short-signed l e))
+
+-- ---- the lines that it stands for
+
+module _ (s : List ℕ) (at v next : ℕ) (w : ShortLine s at v next) where
+  pub short-length-line : (plain three : Bool) → LengthLine.Count v next ≡ lengthLineAt plain three (drop at s) at (lineLen (drop at s))
+  short-length-line plain three =
+      sym
+      (ap (lengthLineAt plain three (drop at s) at) (w .ends)
+      ∙ rw (w .to, short-length v (w .small) plain three (take (w .n - 2) (drop at s)) (w .worth)))
+
+  pub short-number-line : NumberLine.Value v next ≡ numberLineAt (drop at s) at (lineLen (drop at s))
+  short-number-line =
+      sym (ap (numberLineAt (drop at s) at) (w .ends) ∙ rw (w .to, short-signed v (w .small) (take (w .n - 2) (drop at s)) (w .worth)))

@@ -49,7 +49,8 @@ pub enum NumberLine {
 }
 
 // A short line's value and the place after it.
-enum Short {
+// A short number's value and the place after its line, or that there is none such.
+pub enum Short {
     Got(u64, usize),
     No,
 }
@@ -236,8 +237,8 @@ fn near(at: usize, end: usize) -> usize
     if end - at < 18 { end } else { at + 18 }
 }
 
-// At most 18 digits and then CR LF, in one pass: most lengths and Numbers.
-fn short_digits(s: &[u8], at: usize) -> Short
+// At most 18 digits and then CR LF, in one pass: most lengths and Numbers. A walk tries it before the line of any length, so it may say No at will.
+pub fn short_digits(s: &[u8], at: usize) -> Short
     requires { ⌜ at ≤ length (now s) ⌝ }
     ensures { λ r. ⌜ ShortAt (now (s .entry)) at r ⌝ }
 {

@@ -9,6 +9,9 @@ use Rattle.resp2.proofs.Tops.{filled, kept-refused, kept-unfinished}
 use Rattle.resp2.proofs.fill.Statement.{statement}
 use Rattle.resp2.proofs.fill.Tie as tie
 
+all2-requires : tie.Need-all2-requires
+all2-requires c κs = search needs
+
 slice-relend-prefix-array : tie.Need-slice-relend-prefix-array
 slice-relend-prefix-array c = search needs
 
@@ -38,10 +41,10 @@ same-length c = search needs
 
 returns : tie.Need-returns
 returns c =
-    let e = c .before .before .before .before .before .before .before .before .before .before .before .before .before in
-    let f = c .before .before .before .before .before .before .before .before .before .array in
+    let e = c .before .before .before .before .before .before .before .before .before .before .before .before .before .before .before .before in
+    let f = c .before .before .before .before .before .before .before .before .before .before .array in
     filled (e .args .n) (e .args .s .now) (e .args .t .now) (f .last .1 .0) (e .args .lim) (e .args .at) (e .pre .counted) (f .kept .1 .0) _ _
-    (subst (Walks (restP (frameP resp2 31) 0 (holder 13 (e .args .n))) (e .args .s .now) (e .args .lim) (e .args .at) 1 0 [] (f .last .1 .0)) (c .before .before .before .before .before .enum-told .given .1) (f .ensures))
+    (subst (Walks (restP (frameP resp2 31) 0 (holder 13 (e .args .n))) (e .args .s .now) (e .args .lim) (e .args .at) 1 0 [] (f .last .1 .0)) (c .before .before .before .before .before .before .enum-told .given .1) (f .ensures))
     (c .before .before .before .array2 .last .1 .0) (c .before .before .before .array2 .result) (c .as-answer .result) (c .before .before .before .array2 .ensures) (c .as-answer .ensures)
 
 same-length-2 : tie.Need-same-length-2
@@ -49,7 +52,7 @@ same-length-2 c = search needs
 
 returns-2 : tie.Need-returns-2
 returns-2 c =
-    let e = c .before .before .before .before .before .before .before .before .before in
+    let e = c .before .before .before .before .before .before .before .before .before .before .before in
     let f = c .before .before .before .before .before .array in
     kept-refused (e .args .n) (e .args .s .now) (e .args .t .now) (f .last .1 .0) (e .args .lim) (e .args .at) (e .pre .counted) (f .kept .1 .0) _ _
     (subst (Walks (restP (frameP resp2 31) 0 (holder 13 (e .args .n))) (e .args .s .now) (e .args .lim) (e .args .at) 1 0 [] (f .last .1 .0)) (c .before .k .given .1) (f .ensures))
@@ -59,7 +62,7 @@ same-length-3 c = search needs
 
 returns-3 : tie.Need-returns-3
 returns-3 c =
-    let e = c .before .before .before .before .before .before .before .before in
+    let e = c .before .before .before .before .before .before .before .before .before .before in
     let f = c .before .before .before .before .array in
     kept-unfinished (e .args .n) (e .args .s .now) (e .args .t .now) (f .last .1 .0) (e .args .lim) (e .args .at) (e .pre .counted) (f .kept .1 .0)
     (subst (Walks (restP (frameP resp2 31) 0 (holder 13 (e .args .n))) (e .args .s .now) (e .args .lim) (e .args .at) 1 0 [] (f .last .1 .0)) (c .enum-told2 .given .1) (f .ensures))
@@ -68,6 +71,7 @@ pub fill-spec : {M : Type 1} → statement M
 fill-spec =
     tie.close
     (tie.spec
+    all2-requires
     slice-relend-prefix-array
     slice-aggregate-array
     array-requires
