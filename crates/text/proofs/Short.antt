@@ -6,17 +6,20 @@ use mathlib.Core.Option.{none, some}
 use Prim.Native.Nat.{ℕ, suc, _+_, _-_, _*_, _^_, _≤_, _<_}
 use native.Mathlib.Omega.{arith}
 use native.Mathlib.Nat.{pow-suc, pow-le-pow-right}
-use lib.ListN.{length, take, drop, getD}
+use lib.ListN.{length, take, drop, getD, length-drop}
 use lib.Dec.{leb}
 use borrow.Author.Tests.{ne-eqb, lt-ltb, leb-true}
 use Rattle.meaning.specs.Demand.{pick, lineLen}
 use Rattle.meaning.specs.Text.{digits, digitsFrom, plus, signed, count, plainLength, lengthOf, is, codes, same}
 use Rattle.text.specs.Lines.{Clear, foundOf}
-use Rattle.text.specs.Numbers.{lengthFor, lengthLineAt, numberLineAt, ShortLine}
+use Rattle.text.specs.Numbers.{capped, minusD, signedAs, wordS, lengthFor, lengthLineAt, numberLineOf, numberLineAt, ShortLine}
+use Rattle.text.specs.declared.scan.Found.the-variants as Found
+use Rattle.text.specs.declared.number.Digits.the-variants as Digits
+use Rattle.text.specs.declared.number.Signed.{Signed}
 use Rattle.text.specs.declared.number.LengthLine.the-variants as LengthLine
 use Rattle.text.specs.declared.number.NumberLine.the-variants as NumberLine
-use Rattle.text.proofs.Lines.{clear-none, clear-more, passed, line-here, found-some}
-use Rattle.text.proofs.Numbers.{begin, at-digit, at-end}
+use Rattle.text.proofs.Lines.{clear-none, clear-more, passed, line-here, no-cr, found-some, line-size}
+use Rattle.text.proofs.Numbers.{begin, at-digit, at-end, signed-minus, word-right}
 
 -- from `at` up to i stand digits worth v, few enough that v is below 10^18
 pub record Read (s : List ℕ) (at i v : ℕ) : Type 0 where
@@ -118,3 +121,24 @@ module _ (s : List ℕ) (at v next : ℕ) (w : ShortLine s at v next) where
   pub short-number-line : NumberLine.Value v next ≡ numberLineAt (drop at s) at (lineLen (drop at s))
   short-number-line =
       sym (ap (numberLineAt (drop at s) at) (w .ends) ∙ rw (w .to, short-signed v (w .small) (take (w .n - 2) (drop at s)) (w .worth)))
+
+-- a minus sign (45) before it
+module _ (s : List ℕ) (at v next : ℕ) (w : ShortLine s (at + 1) v next) (h : at < length s) (minus : getD s at 0 ≡ 45) where
+  pub short-minus-line : numberLineOf next (wordS (minusD (Digits.Value v))) ≡ numberLineAt (drop at s) at (lineLen (drop at s))
+  short-minus-line =
+      let two = line-size (drop (at + 1) s) (w .n) (w .ends) in
+      let found : Found.Next next ≡ foundOf at (lineLen (drop at s)) =
+      sym (no-cr s at h (λ e. omega (arith, minus)) ∙ ap (foundOf (at + 1)) (w .ends) ∙ ap Found.Next (w .to)) in
+      let k = found-some at next (lineLen (drop at s)) found in
+      let n : k .0 ≡ w .n + 1 = omega (arith, k .2, w .to) in
+      let a : k .0 - 2 ≡ next - 2 - at = omega (arith, k .2) in
+      let b : next - 2 - (at + 1) ≡ w .n - 2 = omega (arith, w .to) in
+      let l = take (next - 2 - at) (drop at s) in
+      let small : v < 10 ^ 18 = w .small in
+      let value : capped (digits (take (next - 2 - (at + 1)) (drop (at + 1) s))) ≡ Digits.Value v = rw (b, w .worth, lt-ltb v (2 ^ 64) (omega arith)) in
+      let signs : minusD (Digits.Value v) ≡ signedAs (signed l) =
+      ap minusD (sym value)
+      ∙ signed-minus s at (next - 2) (omega (arith, w .to, two .0)) (omega (arith, w .to, two .0, two .1, length-drop (at + 1) s)) (λ e. omega (arith, minus)) minus in
+      ap (λ (x : Signed). numberLineOf next (wordS x)) signs
+      ∙ ap (numberLineOf next) (word-right l)
+      ∙ rw (k .1, k .2, a)

@@ -335,6 +335,23 @@ fn number_scanned(s: &[u8], at: usize) -> NumberLine
     }
 }
 
+// A short negative Number is read in one pass too.
+fn minus_line(s: &[u8], at: usize) -> NumberLine
+    requires { ⌜ at ≤ length (now s) ⌝ }
+    ensures { λ r. ⌜ r ≡ numberLineAt (drop at (now (s .entry))) at (lineLen (drop at (now (s .entry)))) ⌝ }
+{
+    if s.len() <= at {
+        return number_scanned(s, at);
+    }
+    if s[at] != 45 {
+        return number_scanned(s, at);
+    }
+    match short_digits(s, at + 1) {
+        Short::Got(v, next) => number_said(as_word(as_minus(Digits::Value(v))), next),
+        Short::No => number_scanned(s, at),
+    }
+}
+
 // The Number on the line at `at`.
 pub fn number_line(s: &[u8], at: usize) -> NumberLine
     requires { ⌜ at ≤ length (now s) ⌝ }
@@ -342,6 +359,6 @@ pub fn number_line(s: &[u8], at: usize) -> NumberLine
 {
     match short_digits(s, at) {
         Short::Got(v, next) => NumberLine::Value(v, next),
-        Short::No => number_scanned(s, at),
+        Short::No => minus_line(s, at),
     }
 }

@@ -15,8 +15,8 @@ enum-known-v c = search needs
 enum-told : tie.Need-enum-told
 enum-told c = search needs
 
-number-scanned-requires : tie.Need-number-scanned-requires
-number-scanned-requires c κs = search needs
+minus-line-requires : tie.Need-minus-line-requires
+minus-line-requires c κs = search needs
 
 returns : tie.Need-returns
 returns c =
@@ -34,6 +34,6 @@ number-line-spec =
     short-digits-requires
     enum-known-v
     enum-told
-    number-scanned-requires
+    minus-line-requires
     returns
     returns-2)
