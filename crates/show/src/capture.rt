@@ -1,0 +1,133 @@
+// All frames of a capture, and where and why they end.
+use crate::frame;
+use crate::out;
+use answers::Told;
+ghost use Prim.Native.Nat.{_+_, _≤_};
+ghost use lib.ListN.{length};
+
+// How much of the output buffer is used, the offset of the next frame, and the refusal or 0.
+struct Moved {
+    used: usize,
+    at: usize,
+    refusal: u64,
+}
+
+// The one place that calls a decoder.
+fn decoded(s: &[u8], t: &mut [u64]) -> Told {
+    answers::numbers_of(resp2::decode(s, t))
+}
+
+// The lines of a frame that begins at `at`, of n bytes and so many rows.
+fn shown_at(
+    s: &[u8],
+    t: &[u64],
+    out: &mut [u8; 65536],
+    used: usize,
+    at: usize,
+    n: usize,
+    rows: usize,
+) -> usize
+    requires { ⌜ used ≤ 65536 ⌝ }
+    requires { ⌜ at + n ≤ length (now s) ⌝ }
+    ensures { λ r. ⌜ r ≤ 65536 ⌝ }
+{
+    if rows <= rows::rows_of(t.len()) {
+        let end = at + n;
+        return frame::lines(out, used, at, &s[at..end], t, rows);
+    }
+    used
+}
+
+// The frame at `at`, shown. The offset stays where there is none.
+fn step(s: &[u8], t: &mut [u64], out: &mut [u8; 65536], used: usize, at: usize) -> Moved
+    requires { ⌜ used ≤ 65536 ⌝ }
+    requires { ⌜ at ≤ length (now s) ⌝ }
+    ensures { λ r. ⌜ (r .used ≤ 65536) × (r .at ≤ length (now (s .entry))) ⌝ }
+{
+    let told = decoded(&s[at..], t);
+    let left = s.len() - at;
+    if told.answer == 1 {
+        let n = told.consumed as usize;
+        if n <= left {
+            let used = shown_at(s, t, out, used, at, n, told.rows as usize);
+            return Moved {
+                used,
+                at: at + n,
+                refusal: 0,
+            };
+        }
+    }
+    Moved {
+        used,
+        at,
+        refusal: told.refusal,
+    }
+}
+
+// How it ended.
+fn report(
+    out: &mut [u8; 65536],
+    used: usize,
+    frames: u64,
+    at: usize,
+    left: usize,
+    refusal: u64,
+) -> usize
+    requires { ⌜ used ≤ 65536 ⌝ }
+    ensures { λ r. ⌜ r ≤ 65536 ⌝ }
+{
+    let p = out::count(out, used, frames, b" frame");
+    let p = out::say(out, p, b", ");
+    let p = out::count(out, p, at as u64, b" byte");
+    if left == 0 {
+        return out::say(out, p, b"\n");
+    }
+    let p = out::say(out, p, b"\nstopped at byte ");
+    let p = out::number(out, p, at as u64);
+    if refusal == 0 {
+        let p = out::say(out, p, b": unfinished, ");
+        let p = out::count(out, p, left as u64, b" byte");
+        return out::say(out, p, b" left\n");
+    }
+    refused(out, p, refusal)
+}
+
+fn refused(out: &mut [u8; 65536], used: usize, refusal: u64) -> usize
+    requires { ⌜ used ≤ 65536 ⌝ }
+    ensures { λ r. ⌜ r ≤ 65536 ⌝ }
+{
+    let p = out::say(out, used, b": refused with ");
+    let p = out::number(out, p, refusal);
+    let p = out::say(out, p, b", ");
+    let p = out::room(out, p);
+    let p = shown::reason(out, p, refusal);
+    if refusal == 11 {
+        return out::say(out, p, b", which is 4096\n");
+    }
+    out::say(out, p, b"\n")
+}
+
+fn frames(s: &[u8], t: &mut [u64], out: &mut [u8; 65536]) -> usize
+    ensures { λ r. ⌜ r ≤ 65536 ⌝ }
+{
+    let mut used = 0;
+    let mut at = 0;
+    let mut count = 0u64;
+    while at < s.len() {
+        let next = step(s, t, out, used, at);
+        used = next.used;
+        if next.at <= at {
+            return report(out, used, count, at, s.len() - at, next.refusal);
+        }
+        at = next.at;
+        count += 1;
+    }
+    report(out, used, count, at, 0, 0)
+}
+
+pub fn show(s: &[u8]) {
+    let mut t = [0u64; 24576];
+    let mut out = [0u8; 65536];
+    let used = frames(s, &mut t, &mut out);
+    out::flush(&out, used);
+}

@@ -1,0 +1,2 @@
+-- What several proofs of `shown` cite.
+mod Steps

@@ -1,0 +1,46 @@
+-- Laws of escaped bytes: one more byte, how long they are at most, and which case a byte is.
+use mathlib.Core.Path.{_≡_, sym, ap, _∙_}
+use mathlib.Core.Bool.{Bool, true, false, _&&_, _||_}
+use mathlib.Core.List.{List, [], _∷_, _++_, append-assoc, append-nil}
+use mathlib.Core.Logic.{_⊎_, inl, inr, ⊎-elim}
+use Prim.Native.Nat.{ℕ, _/_, _%_, _<_, _≤_}
+use borrow.Author.Tests.{le-leb, lt-leb, ne-eqb}
+use native.Mathlib.Omega.{arith}
+use lib.Dec.{eqb, leb}
+use lib.ListN.{length}
+use Rattle.meaning.specs.Demand.{pick}
+use Rattle.shown.specs.Escapes.{escaped, escapedAll, hexOf}
+
+pub escaped-more : (s : List ℕ) (b : ℕ) → escapedAll (s ++ (b ∷ [])) ≡ escapedAll s ++ escaped b
+unfolding escapedAll
+escaped-more [] b = append-nil (escaped b)
+escaped-more (a ∷ s) b = ap (λ (t : List ℕ). escaped a ++ t) (escaped-more s b) ∙ sym (append-assoc (escaped a) (escapedAll s) (escaped b))
+
+pick-short : (t : Bool) (x y : List ℕ) → length x ≤ 4 → length y ≤ 4 → length (pick t x y) ≤ 4
+pick-short true x y p q = p
+pick-short false x y p q = q
+
+pub escaped-short : (b : ℕ) → length (escaped b) ≤ 4
+unfolding escaped
+escaped-short b =
+    pick-short (eqb b 34 || eqb b 92) _ _ (omega arith)
+    (pick-short (eqb b 10) _ _ (omega arith)
+    (pick-short (eqb b 13) _ _ (omega arith) (pick-short (leb 32 b && leb b 126) _ _ (omega arith) (omega arith))))
+
+-- ---- which case
+
+pub quoted : (b : ℕ) → (b ≡ 34) ⊎ (b ≡ 92) → 92 ∷ b ∷ [] ≡ escaped b
+unfolding escaped
+quoted b h = ⊎-elim (λ e. rw e) (λ e. rw e) h
+
+module _ (b : ℕ) (q : (b ≡ 34) ⊎ (b ≡ 92) → ⊥) (n : b ≡ 10 → ⊥) (r : b ≡ 13 → ⊥) where
+  -- no byte that has a letter or a mark of its own after the backslash
+  other : escaped b ≡ pick (leb 32 b && leb b 126) (b ∷ []) (92 ∷ 120 ∷ hexOf (b / 16) ∷ hexOf (b % 16) ∷ [])
+  unfolding escaped
+  other = simp (ne-eqb b 34 (λ e. q (inl e)), ne-eqb b 92 (λ e. q (inr e)), ne-eqb b 10 n, ne-eqb b 13 r)
+
+  pub plain : 32 ≤ b → b < 127 → b ∷ [] ≡ escaped b
+  plain low high = rw other (simp (le-leb 32 b low, le-leb b 126 (omega arith)))
+
+  pub coded : (b < 32) ⊎ (127 ≤ b) → 92 ∷ 120 ∷ hexOf (b / 16) ∷ hexOf (b % 16) ∷ [] ≡ escaped b
+  coded h = rw other (⊎-elim (λ l. simp (lt-leb 32 b l)) (λ l. simp (le-leb 32 b (omega arith), lt-leb b 126 (omega arith))) h)
