@@ -2,3 +2,4 @@
 pub mod Heads
 pub mod Walks
 pub mod Tops
+pub mod Theorems

@@ -125,7 +125,7 @@ fn frames(s: &[u8], t: &mut [u64], out: &mut [u8; 65536]) -> usize
     report(out, used, count, at, 0, 0)
 }
 
-pub fn show(s: &[u8]) {
+pub(crate) fn show(s: &[u8]) {
     let mut t = [0u64; 24576];
     let mut out = [0u8; 65536];
     let used = frames(s, &mut t, &mut out);

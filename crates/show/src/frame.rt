@@ -170,7 +170,7 @@ fn past(row: usize, span: u64, count: usize) -> usize
 }
 
 // The rows of a frame whose bytes are f, which begin at base in the input.
-pub fn lines(
+pub(crate) fn lines(
     out: &mut [u8; 65536],
     at: usize,
     base: usize,

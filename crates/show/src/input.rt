@@ -50,7 +50,7 @@ fn has_more(fd: i32) -> bool {
     libc::read(fd, &mut one) > 0
 }
 
-pub fn show(fd: i32, name: &[u8]) {
+pub(crate) fn show(fd: i32, name: &[u8]) {
     let mut buf = space();
     let filled = fill(fd, &mut buf);
     if filled.failed {

@@ -8,14 +8,14 @@ fn write(out: &[u8], at: usize)
     io::write_all(libc::STDOUT_FILENO, &out[0..at]);
 }
 
-pub fn flush(out: &[u8; 65536], at: usize)
+pub(crate) fn flush(out: &[u8; 65536], at: usize)
     requires { ⌜ at ≤ 65536 ⌝ }
 {
     write(out, at);
 }
 
 // A place with at least 4,096 bytes after it: the buffer is written out if it has none.
-pub fn room(out: &[u8; 65536], at: usize) -> usize
+pub(crate) fn room(out: &[u8; 65536], at: usize) -> usize
     requires { ⌜ at ≤ 65536 ⌝ }
     ensures { λ r. ⌜ r ≤ 61440 ⌝ }
 {
@@ -27,7 +27,7 @@ pub fn room(out: &[u8; 65536], at: usize) -> usize
 }
 
 // A few words.
-pub fn say(out: &mut [u8; 65536], at: usize, text: &[u8]) -> usize
+pub(crate) fn say(out: &mut [u8; 65536], at: usize, text: &[u8]) -> usize
     requires { ⌜ at ≤ 65536 ⌝ }
     requires { ⌜ length (now text) ≤ 4096 ⌝ }
     ensures { λ r. ⌜ r ≤ 65536 ⌝ }
@@ -36,7 +36,7 @@ pub fn say(out: &mut [u8; 65536], at: usize, text: &[u8]) -> usize
     shown::bytes(out, p, text)
 }
 
-pub fn number(out: &mut [u8; 65536], at: usize, n: u64) -> usize
+pub(crate) fn number(out: &mut [u8; 65536], at: usize, n: u64) -> usize
     requires { ⌜ at ≤ 65536 ⌝ }
     ensures { λ r. ⌜ r ≤ 65536 ⌝ }
 {
@@ -45,7 +45,7 @@ pub fn number(out: &mut [u8; 65536], at: usize, n: u64) -> usize
 }
 
 // A number and what it counts, which an s follows unless it is one.
-pub fn count(out: &mut [u8; 65536], at: usize, n: u64, what: &[u8]) -> usize
+pub(crate) fn count(out: &mut [u8; 65536], at: usize, n: u64, what: &[u8]) -> usize
     requires { ⌜ at ≤ 65536 ⌝ }
     requires { ⌜ length (now what) ≤ 4096 ⌝ }
     ensures { λ r. ⌜ r ≤ 65536 ⌝ }
