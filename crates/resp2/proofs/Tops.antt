@@ -20,7 +20,6 @@ use Rattle.meaning.specs.StepLaws.{decode-run, outcome-run, answer-outcome, fra
 use Rattle.answers.specs.Answers.{answerOf, tableAfter, Decoded}
 use Rattle.answers.specs.declared.Answer.{Answer}
 use Rattle.answers.specs.declared.Answer.the-variants as Answer
-use Rattle.rows.specs.Put.{putRow}
 use Rattle.resp2.specs.Heads.{Heads, outHead, leafP}
 use Rattle.resp2.specs.Walks.{walkOf, Wrote, Walks, Placed, LeafRow}
 use Rattle.resp2.specs.Tops.{answerAs, arrayOut, topOut, rowsAfter, Filled, ArrayTop}
@@ -131,12 +130,12 @@ module _ (s t₀ : List ℕ) (lim : ℕ) where
   pub top-filled : (n m : ℕ) (t₁ : List ℕ) (r : Answer) → Heads (holderP resp2 13) s 1 (Head.Array n m) → Filled n s lim m t₀ t₁ r → ArrayTop s lim t₀ t₁ r
   top-filled n m t₁ r w f = array-top t₁ r (arrayOut n s lim m) (by-head (Head.Array n m) w) (f .says) (f .leaves)
 
-  pub top-null : (k a b c m : ℕ) (t₁ : List ℕ) → lim ≡ rowsIn (length t₀) → 0 < lim → Heads (holderP resp2 13) s 1 (Head.Leaf k a b c m)
-      → t₁ ≡ putRow t₀ 0 (record { kind = k; w1 = a; w2 = b; w3 = c; span = 1; note = 0 }) → ArrayTop s lim t₀ t₁ (Answer.Frame m 1)
-  top-null k a b c m t₁ e one w q =
-      array-top t₁ (Answer.Frame m 1) (done (item (headOf k a b c 0) end end) m 1)
-      (by-head (Head.Leaf k a b c m) w ∙ leaf-run (frameP resp2 31) 0 s lim m 1 k a b c) refl
-      (q ∙ leaf-row t₀ 0 lim k a b c (omega arith) (omega arith) (omega arith))
+  pub top-null : (k a b c m : ℕ) → lim ≡ rowsIn (length t₀) → 0 < lim → Heads (holderP resp2 13) s 1 (Head.Leaf k a b c m)
+      → (t₁ : List ℕ) (w : Walk) (r : Answer) → Placed (Leaf.Row k a b c m) 0 t₀ t₁ w → r ≡ answerAs w → ArrayTop s lim t₀ t₁ r
+  top-null k a b c m e one h t₁ w r p q =
+      array-top t₁ r (done (item (headOf k a b c 0) end end) m 1)
+      (by-head (Head.Leaf k a b c m) h ∙ leaf-run (frameP resp2 31) 0 s lim m 1 k a b c)
+      (q ∙ ap answerAs (p .says)) (p .leaves ∙ leaf-row t₀ 0 lim k a b c (omega arith) (omega arith) (omega arith))
 
 module _ (s t₀ : List ℕ) (lim : ℕ) (e : lim ≡ rowsIn (length t₀)) where
   pub no-row : lim ≡ 0 → Decoded resp2 s t₀ t₀ (Answer.Refused 11)

@@ -21,8 +21,9 @@ use Rattle.meaning.specs.StepLaws.{mapOut, repeat-none, repeat-more, next, hold
 use Rattle.rows.specs.Put.{putRow, rowWords}
 use Rattle.rows.specs.RowLaws.{put-there, sets-append, sets-before}
 use Rattle.rows.specs.declared.Row.{Row}
+use Rattle.leaf.specs.declared.Leaf.the-variants as Leaf
 use Rattle.resp2.specs.Heads.{Heads, outHead}
-use Rattle.resp2.specs.Walks.{walkOf, Wrote, Walks}
+use Rattle.resp2.specs.Walks.{walkOf, Wrote, Walks, Placed}
 use Rattle.resp2.specs.declared.head.Head.{Head}
 use Rattle.resp2.specs.declared.head.Head.the-variants as Head
 use Rattle.resp2.specs.declared.walk.Walk.{Walk}
@@ -190,9 +191,16 @@ module _ (s : List ℕ) (lim at used d : ℕ) where
       pub frame-unfinished : Heads (typeP resp2 (headP resp2)) s at Head.Unfinished → run (frameP resp2 d) s lim at used ≡ unfinished
       frame-unfinished w = by-head Head.Unfinished w
 
-      pub frame-leaf : (k a b c m : ℕ) → Heads (typeP resp2 (headP resp2)) s at (Head.Leaf k a b c m)
+      frame-leaf : (k a b c m : ℕ) → Heads (typeP resp2 (headP resp2)) s at (Head.Leaf k a b c m)
           → run (frameP resp2 d) s lim at used ≡ done (item (headOf k a b c 0) end end) m (used + 1)
       frame-leaf k a b c m w = by-head (Head.Leaf k a b c m) w ∙ leaf-run (frameP resp2 (d - 1)) 0 s lim m (used + 1) k a b c
+
+      pub walks-leaf : lim ≤ 4096 → (k a b c m : ℕ) → Heads (typeP resp2 (headP resp2)) s at (Head.Leaf k a b c m)
+          → (t₀ t₁ : List ℕ) (r : Walk) → Placed (Leaf.Row k a b c m) used t₀ t₁ r → Walks (frameP resp2 d) s lim at used used t₀ t₁ r
+      walks-leaf few k a b c m w t₀ t₁ r p =
+          subst (Walks (frameP resp2 d) s lim at used used t₀ t₁) (sym (p .says))
+          (walks-to (frameP resp2 d) s lim at used used t₀ t₁ (item (headOf k a b c 0) end end) m (used + 1) (frame-leaf k a b c m w)
+          (λ g. p .leaves ∙ leaf-row t₀ used lim k a b c l few g))
 
       pub frame-array : (n m : ℕ) → Heads (typeP resp2 (headP resp2)) s at (Head.Array n m)
           → run (frameP resp2 d) s lim at used ≡ run (restP (frameP resp2 (d - 1)) 0 (holder 13 n)) s lim m (used + 1)

@@ -5,7 +5,7 @@ mod walk;
 use crate::head::Head;
 use crate::walk::Walk;
 use answers::Answer;
-use rows::Row;
+use leaf::Leaf;
 ghost use mathlib.Core.Path.{_≡_};
 ghost use Rattle.meaning.specs.Kinds.{resp2};
 ghost use Rattle.answers.specs.Answers.{Decoded};
@@ -40,18 +40,11 @@ fn array_top(s: &[u8], t: &mut [u64], lim: usize) -> Answer
     ensures { λ r. ⌜ ArrayTop (now (s .entry)) lim (now (t .entry)) (now (t .exit)) r ⌝ }
 {
     match head::array_head(s, 1) {
-        Head::Leaf(k, a, b, c, next) => {
-            let own = Row {
-                kind: k,
-                w1: a,
-                w2: b,
-                w3: c,
-                span: 1,
-                note: 0,
-            };
-            rows::put(t, 0, own);
-            Answer::Frame(next, 1)
-        }
+        Head::Leaf(k, a, b, c, next) => as_answer(walk::place_row(
+            t,
+            0,
+            Leaf::Row(k, a, b, c, next),
+        )),
         Head::Array(n, next) => fill(s, t, lim, next, n),
         Head::Refused(k, _) => Answer::Refused(k),
         Head::Unfinished => Answer::Unfinished,

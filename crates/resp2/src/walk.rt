@@ -17,7 +17,7 @@ pub enum Walk {
 }
 
 // A leaf's row, where there is one.
-fn place_row(t: &mut [u64], row: usize, l: Leaf) -> Walk
+pub fn place_row(t: &mut [u64], row: usize, l: Leaf) -> Walk
     requires { ⌜ row ≤ 4096 ⌝ }
     ensures { λ r. ⌜ Placed l row (now (t .entry)) (now (t .exit)) r ⌝ }
 {
@@ -111,18 +111,7 @@ fn frame(
         return Walk::Refused(11, at);
     }
     match crate::head::head_at(s, kinds, at) {
-        Head::Leaf(k, a, b, c, next) => {
-            let own = Row {
-                kind: k,
-                w1: a,
-                w2: b,
-                w3: c,
-                span: 1,
-                note: 0,
-            };
-            rows::put(t, used, own);
-            Walk::To(next, used + 1)
-        }
+        Head::Leaf(k, a, b, c, next) => place_row(t, used, Leaf::Row(k, a, b, c, next)),
         Head::Array(n, next) => array(s, t, kinds, lim, next, used + 1, depth - 1, n),
         Head::Refused(k, place) => Walk::Refused(k, place),
         Head::Unfinished => Walk::Unfinished,

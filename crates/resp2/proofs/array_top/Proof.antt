@@ -14,8 +14,11 @@ array-head-requires c κs = search needs
 enum-known-k : tie.Need-enum-known-k
 enum-known-k c = search needs
 
-put-requires : tie.Need-put-requires
-put-requires c κs = search needs
+place-row-requires : tie.Need-place-row-requires
+place-row-requires c κs = search needs
+
+as-answer-requires : tie.Need-as-answer-requires
+as-answer-requires c κs = search needs
 
 enum-known-n : tie.Need-enum-known-n
 enum-known-n c = search needs
@@ -36,8 +39,9 @@ same-length c = search needs
 
 returns : tie.Need-returns
 returns c =
-    let e = c .before .before .before .before .before .before .before .before .before .before in
-    top-null (e .args .s .now) (e .args .t .now) (e .args .lim) _ _ _ _ _ _ (e .pre .counted) (e .pre .one) (subst (Heads (holderP resp2 13) (e .args .s .now) 1) (c .before .before .before .before .before .k .given .1) (c .before .before .before .before .before .before .before .array-head .ensures)) (c .before .before .put .ensures)
+    let e = c .before .before .before .before .before .before .before .before .before .before .before in
+    top-null (e .args .s .now) (e .args .t .now) (e .args .lim) _ _ _ _ _ (e .pre .counted) (e .pre .one) (subst (Heads (holderP resp2 13) (e .args .s .now) 1) (c .before .before .before .before .before .before .k .given .1) (c .before .before .before .before .before .before .before .before .array-head .ensures))
+    _ _ _ (c .before .before .before .place-row .ensures) (c .as-answer .ensures)
 
 same-length-2 : tie.Need-same-length-2
 same-length-2 c = search needs
@@ -63,7 +67,8 @@ array-top-spec =
     (tie.spec
     array-head-requires
     enum-known-k
-    put-requires
+    place-row-requires
+    as-answer-requires
     enum-known-n
     fill-requires
     enum-known-k-2

@@ -12,7 +12,7 @@ use Rattle.resp2.specs.Heads.{Heads}
 use Rattle.resp2.specs.Walks.{Walks, Start, Inside}
 use Rattle.resp2.specs.declared.head.Head.{Head}
 use Rattle.resp2.specs.declared.walk.Walk.{Walk}
-use Rattle.resp2.proofs.Walks.{Loop, loop-start, loop-step, loop-refused, loop-unfinished, loop-end, array-run, own-row, leaf-row, walks-refused, walks-unfinished, walks-to, walks-as, frame-0, frame-no-room, frame-refused, frame-unfinished, frame-leaf, frame-array, head-next, refused-run, unfinished-run}
+use Rattle.resp2.proofs.Walks.{Loop, loop-start, loop-step, loop-refused, loop-unfinished, loop-end, array-run, own-row, walks-refused, walks-unfinished, walks-to, walks-as, frame-0, frame-no-room, frame-refused, frame-unfinished, walks-leaf, frame-array, head-next, refused-run, unfinished-run}
 use Prim.Native.Nat.{ℕ, _<_}
 use borrow.Fn.Kinds.{In}
 use borrow.Fn.PlainCycle.{Measures, is, falls, and}
@@ -24,6 +24,7 @@ use Rattle.resp2.proofs.walk.frame.Kinds as frame-kinds
 use Rattle.resp2.proofs.walk.+array+frame.Lts-frame as frame-lts
 use Rattle.resp2.proofs.head.head_at.Reads as head-at-reads
 use Rattle.rows.proofs.put.Reads as put-reads
+use Rattle.resp2.proofs.walk.place_row.Reads as place-row-reads
 use Rattle.resp2.proofs.walk.+array+frame.{statement}
 use Rattle.resp2.proofs.walk.+array+frame.Tie.{close}
 
@@ -153,7 +154,7 @@ array-returns-3 t c =
     (λ g. q .ensures ∙ own-row (e .t .now) (l .t) (e .used) (l .row) (e .n) (e .lim) (l .inv .read) (a .pre .1 .one) (a .pre .1 .rows) (a .pre .1 .few) g (l .inv .count) (l .inv .holds g))
 
 abbrev frame-claims : ℕ → frame-lts.Claims
-frame-claims t = (head-at-reads.Asked, head-at-reads.Learnt, put-reads.Asked, put-reads.Learnt, array-below t, array.Post)
+frame-claims t = (head-at-reads.Asked, head-at-reads.Learnt, place-row-reads.Asked, place-row-reads.Learnt, array-below t, array.Post)
 
 frame-returns : (t : ℕ) → frame-lts.Need-returns (frame-claims t) (frame-at t) frame.Post
 frame-returns t c =
@@ -173,13 +174,10 @@ frame-head-at-requires t c κs =
 frame-enum-known-k : (t : ℕ) → frame-lts.Need-enum-known-k (frame-claims t) (frame-at t) frame.Post
 frame-enum-known-k t c = search needs
 
-frame-put-requires : (t : ℕ) → frame-lts.Need-put-requires (frame-claims t) (frame-at t) frame.Post
-frame-put-requires t c κs = search needs
-
-frame-add-t24 : (t : ℕ) → frame-lts.Need-add-t24 (frame-claims t) (frame-at t) frame.Post
-frame-add-t24 t c =
-    let e = c .before .before .before .before .before .before .before .before .before .before .before .before in
-    omega (arith, c .before .before .before .before .before .before .before .before .if2 .left, e .pre .1 .few)
+frame-place-row-requires : (t : ℕ) → frame-lts.Need-place-row-requires (frame-claims t) (frame-at t) frame.Post
+frame-place-row-requires t c κs =
+    let e = c .before .before .before .before .before .before .before .before .before in
+    omega (arith, c .before .before .before .before .before .if2 .left, e .pre .1 .few)
 
 frame-enum-known-n : (t : ℕ) → frame-lts.Need-enum-known-n (frame-claims t) (frame-at t) frame.Post
 frame-enum-known-n t c = search needs
@@ -207,16 +205,15 @@ frame-enum-told : (t : ℕ) → frame-lts.Need-enum-told (frame-claims t) (frame
 frame-enum-told t c = search needs
 
 frame-same-length : (t : ℕ) → frame-lts.Need-same-length (frame-claims t) (frame-at t) frame.Post
-frame-same-length t c =
-    c .before .before .put .kept .0
+frame-same-length t c = c .before .before .place-row .kept .0
 
 frame-returns-3 : (t : ℕ) → frame-lts.Need-returns-3 (frame-claims t) (frame-at t) frame.Post
 frame-returns-3 t c =
     let e = c .before .before .before .before .before .before .before .before .before .before .before .before in
-    walks-to (frameP resp2 (e .args .depth)) (e .args .s .now) (e .args .lim) (e .args .at) (e .args .used) (e .args .used) (e .args .t .now) _ _ _ _
-    (frame-leaf (e .args .s .now) (e .args .lim) (e .args .at) (e .args .used) (e .args .depth) (c .before .before .before .before .before .before .before .before .before .if1 .left) (c .before .before .before .before .before .before .before .before .if2 .left) _ _ _ _ _
-    (subst (Heads (typeP resp2 (headP resp2)) (e .args .s .now) (e .args .at)) (c .before .before .before .before .before .k .given .1) (c .before .before .before .before .before .before .before .head-at .ensures)))
-    (λ g. c .before .before .put .ensures ∙ leaf-row (e .args .t .now) (e .args .used) (e .args .lim) _ _ _ _ (c .before .before .before .before .before .before .before .before .if2 .left) (e .pre .1 .few) g)
+    let q = c .before .before .place-row in
+    walks-leaf (e .args .s .now) (e .args .lim) (e .args .at) (e .args .used) (e .args .depth) (c .before .before .before .before .before .before .before .before .before .if1 .left) (c .before .before .before .before .before .before .before .before .if2 .left) (e .pre .1 .few) _ _ _ _ _
+    (subst (Heads (typeP resp2 (headP resp2)) (e .args .s .now) (e .args .at)) (c .before .before .before .before .before .k .given .1) (c .before .before .before .before .before .before .before .head-at .ensures))
+    (e .args .t .now) (q .last .0) (q .result) (q .ensures)
 
 frame-same-length-2 : (t : ℕ) → frame-lts.Need-same-length-2 (frame-claims t) (frame-at t) frame.Post
 frame-same-length-2 t c =
@@ -270,22 +267,14 @@ pub +array+frame-spec : {M : Type 1} → statement M
     (array-put-requires t)
     (array-same-length-3 t)
     (array-returns-3 t))
-    λ t. frame-lts.spec (
-      head-at-reads.Asked,
-      head-at-reads.Learnt,
-      put-reads.Asked,
-      put-reads.Learnt,
-      array-below t,
-      array.Post,
-    )
+    λ t. frame-lts.spec (frame-claims t)
     (frame-at t)
     frame.Post
     (frame-returns t)
     (frame-returns-2 t)
     (frame-head-at-requires t)
     (frame-enum-known-k t)
-    (frame-put-requires t)
-    (frame-add-t24 t)
+    (frame-place-row-requires t)
     (frame-enum-known-n t)
     (frame-add-array t)
     (frame-sub-array t)
