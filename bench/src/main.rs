@@ -1,0 +1,257 @@
+//! Times our library, the crate and hiredis on the same bytes in one run, and measures the stack that a decode takes.
+
+#[cfg(feature = "encode")]
+mod encode;
+mod hiredis;
+mod stack;
+mod work;
+
+use hiredis::{Reader, Said};
+use redis_protocol::{resp2, resp3};
+use std::hint::black_box;
+use std::time::Instant;
+use work::Work;
+
+type Decode = fn(&[u8], &mut [u64]) -> imrazgul::Decoded;
+
+/// Our RESP3 decoders, complete and streaming.
+#[cfg(feature = "resp3")]
+const RESP3: Option<[Decode; 2]> = Some([imrazgul::resp3_decode, imrazgul::resp3_stream]);
+#[cfg(not(feature = "resp3"))]
+const RESP3: Option<[Decode; 2]> = None;
+
+/// A way to decode all frames of a work once; false where it gives another answer than the work says.
+type Run<'a> = Box<dyn FnMut() -> bool + 'a>;
+
+fn ours<'a>(work: &'a Work, decode: Decode) -> Run<'a> {
+    let mut table = vec![0u64; 6 * 4096];
+    Box::new(move || {
+        let bytes = black_box(&work.bytes[..]);
+        let mut at = 0;
+        for _ in 0..work.frames {
+            let said = black_box(decode(&bytes[at..], &mut table));
+            at += said.consumed as usize;
+            if said.answer != u64::from(!work.unfinished) {
+                return false;
+            }
+        }
+        work.unfinished || at == bytes.len()
+    })
+}
+
+fn theirs<'a, F: 'a, E: 'a>(work: &'a Work, decode: fn(&[u8]) -> Result<Option<(F, usize)>, E>) -> Run<'a> {
+    Box::new(move || {
+        let bytes = black_box(&work.bytes[..]);
+        let mut at = 0;
+        for _ in 0..work.frames {
+            match black_box(decode(&bytes[at..])) {
+                Ok(Some((_, n))) if !work.unfinished => at += n,
+                Ok(None) => return work.unfinished,
+                _ => return false,
+            }
+        }
+        at == bytes.len()
+    })
+}
+
+fn hiredis<'a>(work: &'a Work, objects: bool) -> Run<'a> {
+    if work.unfinished {
+        // it keeps what it was fed, so each call has a reader of its own
+        return Box::new(move || {
+            let mut reader = Reader::new(objects);
+            reader.feed(black_box(&work.bytes));
+            reader.reply() == Said::Unfinished
+        });
+    }
+    let mut reader = Reader::new(objects);
+    if work.frames > 1 {
+        // in pieces, as it reads from a socket: it moves what it has not read at nearly each reply
+        return Box::new(move || {
+            let mut replies = 0;
+            for piece in black_box(&work.bytes).chunks(16 << 10) {
+                reader.feed(piece);
+                while reader.reply() == Said::Reply {
+                    replies += 1;
+                }
+            }
+            replies == work.frames
+        });
+    }
+    Box::new(move || {
+        reader.feed(black_box(&work.bytes));
+        reader.reply() == Said::Reply
+    })
+}
+
+/// The least time of one turn for each way, in nanoseconds; None for a way that does not give the work's answer. The
+/// ways take turns, so that what disturbs the machine disturbs all of them.
+fn least(mut ways: Vec<Option<Run>>, millis: u64, frames: usize) -> Vec<Option<f64>> {
+    let mut turns = vec![0u64; ways.len()];
+    for (i, way) in ways.iter_mut().enumerate() {
+        if way.as_mut().is_some_and(|w| !w()) {
+            *way = None;
+        }
+        if let Some(w) = way {
+            // as many calls as take about 100 microseconds
+            let start = Instant::now();
+            let mut n = 0;
+            while start.elapsed().as_micros() < 300 {
+                black_box(w());
+                n += 1;
+            }
+            turns[i] = (n / 3).max(1);
+        }
+    }
+    let mut best = vec![f64::INFINITY; ways.len()];
+    let start = Instant::now();
+    let mut rounds = 0;
+    while rounds < 20 || start.elapsed().as_millis() < millis as u128 {
+        rounds += 1;
+        for (i, way) in ways.iter_mut().enumerate() {
+            if let Some(w) = way {
+                let start = Instant::now();
+                for _ in 0..turns[i] {
+                    black_box(w());
+                }
+                best[i] = best[i].min(start.elapsed().as_nanos() as f64 / turns[i] as f64);
+            }
+        }
+    }
+    best.into_iter().zip(&ways).map(|(b, w)| w.as_ref().map(|_| b / frames as f64)).collect()
+}
+
+fn ns(t: Option<f64>) -> String {
+    match t {
+        None => "–".into(),
+        Some(t) if t < 100.0 => format!("{t:.1}"),
+        Some(t) => {
+            let digits = format!("{t:.0}");
+            let mut out = String::new();
+            for (i, c) in digits.chars().enumerate() {
+                if i != 0 && (digits.len() - i) % 3 == 0 {
+                    out.push(',');
+                }
+                out.push(c);
+            }
+            out
+        }
+    }
+}
+
+/// Ours by theirs: below 1 ours is faster.
+fn ratio(ours: Option<f64>, theirs: Option<f64>) -> String {
+    match (ours, theirs) {
+        (Some(a), Some(b)) if a / b < 0.005 => "<0.01".into(),
+        (Some(a), Some(b)) => format!("{:.2}", a / b),
+        _ => "–".into(),
+    }
+}
+
+fn decoders(works: &[Work], millis: u64) {
+    let rows: Vec<(&Work, Vec<Option<f64>>)> = works
+        .iter()
+        .map(|w| {
+            let two = |run| if w.resp3_only { None } else { Some(run) };
+            let ways = vec![
+                two(ours(w, imrazgul::resp2_decode)),
+                two(theirs(w, resp2::decode::decode_range)),
+                RESP3.map(|f| ours(w, f[0])),
+                RESP3.map(|_| theirs(w, resp3::decode::complete::decode_range)),
+                two(hiredis(w, true)),
+                two(hiredis(w, false)),
+                RESP3.map(|f| ours(w, f[1])),
+            ];
+            eprintln!("  {}", w.name);
+            (w, least(ways, millis, w.frames))
+        })
+        .collect();
+    println!("## RESP2: nanoseconds a call, and ours by theirs\n");
+    println!("| input | bytes | ours | crate | ratio | hiredis | ratio | hiredis without objects | ratio |");
+    println!("|---|--:|--:|--:|--:|--:|--:|--:|--:|");
+    for (w, t) in rows.iter().filter(|(w, _)| !w.resp3_only) {
+        let bytes = w.bytes.len() / w.frames;
+        println!(
+            "| {} | {bytes} | {} | {} | {} | {} | {} | {} | {} |",
+            w.name,
+            ns(t[0]),
+            ns(t[1]),
+            ratio(t[0], t[1]),
+            ns(t[4]),
+            ratio(t[0], t[4]),
+            ns(t[5]),
+            ratio(t[0], t[5])
+        );
+    }
+    if RESP3.is_none() {
+        return println!("\nRESP3: the library has no resp3 decoder yet.");
+    }
+    println!("\n## RESP3: nanoseconds a call, and ours by theirs\n");
+    println!("hiredis reads the same bytes as RESP2: the version measured has no RESP3.\n");
+    println!(
+        "| input | bytes | ours | ours, streaming | crate | ratio | hiredis, ratio | hiredis without objects, ratio |"
+    );
+    println!("|---|--:|--:|--:|--:|--:|--:|--:|");
+    for (w, t) in &rows {
+        let bytes = w.bytes.len() / w.frames;
+        println!(
+            "| {} | {bytes} | {} | {} | {} | {} | {} | {} |",
+            w.name,
+            ns(t[2]),
+            ns(t[6]),
+            ns(t[3]),
+            ratio(t[2], t[3]),
+            ratio(t[2], t[4]),
+            ratio(t[2], t[5])
+        );
+    }
+}
+
+fn stacks(works: &[Work]) {
+    println!("\n## Stack: bytes that a call takes\n");
+    println!("Of a painted thread, the closure that calls included.\n");
+    println!("| input | ours RESP2 | crate RESP2 | ours RESP3 | crate RESP3 | ours RESP2 encode |");
+    println!("|---|--:|--:|--:|--:|--:|");
+    for name in ["`+OK`", "100 lanes, array", "32 deep"] {
+        let w = works.iter().find(|w| w.name == name).unwrap();
+        let bytes: &'static [u8] = w.bytes.clone().leak();
+        let decode = |f: Decode| {
+            let table: &'static mut [u64] = vec![0; 6 * 4096].leak();
+            stack::used(move || {
+                black_box(f(bytes, table));
+            })
+        };
+        #[cfg(feature = "encode")]
+        let encode = encode::stack(bytes).to_string();
+        #[cfg(not(feature = "encode"))]
+        let encode = "–";
+        println!(
+            "| {name} | {} | {} | {} | {} | {encode} |",
+            decode(imrazgul::resp2_decode),
+            stack::used(move || drop(black_box(resp2::decode::decode_range(bytes)))),
+            RESP3.map_or("–".into(), |f| decode(f[0]).to_string()),
+            stack::used(move || drop(black_box(resp3::decode::complete::decode_range(bytes)))),
+        );
+    }
+    println!(
+        "\nThe crate has no depth limit; its stack grows with the input's nesting. It also takes heap, ours none."
+    );
+}
+
+fn main() {
+    let keys: Vec<String> = std::env::args().skip(1).collect();
+    let key = |k: &str| keys.iter().find_map(|w| w.strip_prefix(k)?.strip_prefix('='));
+    let millis = key("millis").map_or(400, |v| v.parse().expect("millis=NUMBER"));
+    let works = work::all(key("traffic"));
+    println!("# Times\n");
+    println!("Least of many turns of about 0.1 ms, the ways taking turns on one thread, {millis} ms an input. Our tables have 4,096");
+    println!("rows; neither they nor the outputs are cleared between calls. The crate's time has the freeing of its frame in it,");
+    println!("hiredis's the copy into its reader's buffer (a pipeline's in pieces of 16 KiB) and, with objects, their freeing; where");
+    println!("the input is unfinished also the making and freeing of the reader. – means that it does not give the answer: hiredis");
+    println!("0.14 refuses nesting over 7.\n");
+    decoders(&works, millis);
+    #[cfg(feature = "encode")]
+    encode::run(&works, millis);
+    #[cfg(not(feature = "encode"))]
+    println!("\nEncode: the library has no resp2 encoder yet.");
+    stacks(&works);
+}

@@ -1,0 +1,110 @@
+//! Calls each function with known inputs, so that a wrong declaration is caught. P2 to P13 are samples of document 01.
+
+use imrazgul::*;
+
+const MINE: u64 = 0x5a5a_5a5a_5a5a_5a5a;
+
+fn frame(consumed: u64, rows: u64) -> Decoded {
+    Decoded { answer: 1, refusal: 0, consumed, rows }
+}
+
+fn refused(refusal: u64) -> Decoded {
+    Decoded { answer: 3, refusal, consumed: 0, rows: 0 }
+}
+
+const UNFINISHED: Decoded = Decoded { answer: 0, refusal: 0, consumed: 0, rows: 0 };
+
+type Decoder = fn(&[u8], &mut [u64]) -> Decoded;
+
+/// A decoder's answer with the words that it left in a table of two rows and one word more.
+fn decode(f: Decoder, src: &[u8]) -> (Decoded, [u64; 13]) {
+    let mut table = [MINE; 13];
+    let said = f(src, &mut table);
+    (said, table)
+}
+
+/// The decoders that the library has.
+#[cfg(feature = "resp3")]
+const DECODERS: &[Decoder] = &[resp2_decode, resp3_decode, resp3_stream];
+#[cfg(not(feature = "resp3"))]
+const DECODERS: &[Decoder] = &[resp2_decode];
+
+/// A table of 13 words that begins with these.
+fn words(first: &[u64]) -> [u64; 13] {
+    let mut all = [MINE; 13];
+    all[..first.len()].copy_from_slice(first);
+    all
+}
+
+#[test]
+fn p2_a_simple_string() {
+    for f in DECODERS {
+        assert_eq!(decode(*f, b"+OK\r\n"), (frame(5, 1), words(&[1, 1, 3, 0, 1, 0])));
+        assert_eq!(decode(*f, b"+OK\r"), (UNFINISHED, words(&[])));
+        assert_eq!(f(b"+OK\r\n", &mut []), refused(11));
+    }
+}
+
+#[test]
+fn p4_minus_one_in_resp2() {
+    assert_eq!(decode(resp2_decode, b"$-1\r\n"), (frame(5, 1), words(&[6, 0, 0, 0, 1, 0])));
+}
+
+#[cfg(feature = "resp3")]
+#[test]
+fn p4_minus_one_in_resp3() {
+    assert_eq!(decode(resp3_decode, b"$-1\r\n"), (refused(6), words(&[])));
+    let marker = Decoded { answer: 2, refusal: 0, consumed: 5, rows: 1 };
+    assert_eq!(decode(resp3_stream, b"$-1\r\n"), (marker, words(&[19, 0, 0, 7, 1, 0])));
+    assert_eq!(marker.answer(), Answer::Marker { consumed: 5, rows: 1 });
+}
+
+#[test]
+fn p5_a_null_array() {
+    assert_eq!(decode(resp2_decode, b"*-01\r\n"), (frame(6, 1), words(&[6, 0, 0, 0, 1, 0])));
+}
+
+#[test]
+fn p6_a_blob_with_any_trailer() {
+    for f in DECODERS {
+        assert_eq!(decode(*f, b"$3\r\nabcXY"), (frame(9, 1), words(&[7, 4, 7, 0, 1, 0])));
+    }
+    assert_eq!(decode(resp2_decode, b"$?\r\n"), (refused(2), words(&[])));
+}
+
+#[cfg(feature = "encode")]
+const P13: [u64; 18] = [13, 0, 0, 2, 3, 0, 3, 7, 0, 0, 1, 0, 6, 0, 0, 0, 1, 0];
+
+#[cfg(feature = "encode")]
+#[test]
+fn p13_encode_an_array() {
+    let mut out = [b'.'; 20];
+    assert_eq!(resp2_length(&[], &P13, false).result(), Ok(13));
+    assert_eq!(resp2_length(&[], &P13, true).result(), Ok(16));
+    assert_eq!(resp2_encode(&[], &P13, false, &mut out).result(), Ok(13));
+    assert_eq!(&out, b"*2\r\n:7\r\n$-1\r\n.......");
+    assert_eq!(resp2_encode(&[], &P13, true, &mut out).result(), Ok(16));
+    assert_eq!(&out, b"*2\r\n$1\r\n7\r\n$-1\r\n....");
+    assert_eq!(resp2_encode(&[], &P13, false, &mut out[..12]).result(), Err((12, 13)));
+    assert_eq!(resp2_encode(&[], &P13[..17], false, &mut out).result(), Err((13, 0)));
+    assert_eq!(&out, b"*2\r\n$1\r\n7\r\n$-1\r\n....");
+    let smallest = [3, 1 << 63, 0, 0, 1, 0];
+    assert_eq!(resp2_length(&[], &smallest, true).result(), Ok(27));
+}
+
+#[cfg(feature = "encode")]
+#[test]
+fn encode_takes_text_from_its_source() {
+    let mut out = [b'.'; 12];
+    assert_eq!(resp2_encode(b"abcdef", &[7, 2, 5, 0, 1, 0], false, &mut out).result(), Ok(9));
+    assert_eq!(&out, b"$3\r\ncde\r\n...");
+    assert_eq!(resp2_length(b"abcd", &[7, 2, 5, 0, 1, 0], false).result(), Err((13, 0)));
+}
+
+#[test]
+fn digits() {
+    assert_eq!(u64_digits(0), (*b"00000000000000000000", 19));
+    assert_eq!(u64_digits(u64::MAX), (*b"18446744073709551615", 0));
+    assert_eq!(i64_digits(i64::MIN), (*b"-9223372036854775808", 0));
+    assert_eq!(i64_digits(-70), (*b"00000000000000000-70", 17));
+}
