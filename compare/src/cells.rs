@@ -62,7 +62,7 @@ fn yes(b: bool) -> &'static str {
     }
 }
 
-/// Prints the table; true where the columns are what NOTES A1 has: keys 1 to 12, attributes all but 6, 11, 12, 17, 18.
+/// Prints the table; true where the columns are what docs/DIFFERENCES.md has at A1: keys 1 to 12, attributes all but 6, 11, 12, 17, 18.
 pub fn run() -> bool {
     println!("`~` is CR LF, SET the type byte of a Set. Each line is one call of the crate's streaming decoder.\n");
     println!("| code | kind | position | input | the crate's answer | allowed |");
@@ -105,6 +105,6 @@ pub fn run() -> bool {
     println!("\nkey column: {keys:?}");
     println!("attribute column: {carriers:?}");
     println!("codes whose runs differ among themselves: {mixed:?}");
-    println!("as NOTES A1 has the columns: {}", yes(right));
+    println!("as docs/DIFFERENCES.md has the columns, A1: {}", yes(right));
     right
 }

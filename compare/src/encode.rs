@@ -63,7 +63,7 @@ fn outside(f: &OwnedFrame) -> bool {
 }
 
 /// How many bytes too many the crate's length says: a floating log10 takes a number just below a power of ten for it
-/// (NOTES A3).
+/// (docs/DIFFERENCES.md, A3).
 fn too_many(f: &OwnedFrame, flag: bool) -> usize {
     let digits = |n: u64| redis_protocol::digits_in_usize(n as usize) - n.to_string().len();
     match f {

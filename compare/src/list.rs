@@ -10,7 +10,7 @@
 //! - 15 bytes for each row: 1 byte kind, 8 bytes word 1, 2 bytes each words 2, 3 and the span. Word 5 is 0.
 //!
 //! The rows are made from the crate's `RangeFrame` alone. Left out is what the crate can't be asked or what we answer
-//! with 10 or 11: counts that nom would reserve too much for (NOTES A2), a frame at depth 33, more than `ROWS` rows.
+//! with 10 or 11: counts that nom would reserve too much for (docs/DIFFERENCES.md, A2), a frame at depth 33, more than `ROWS` rows.
 //! What the program has to print goes to standard error.
 
 use crate::generate::{Maker, RESP2};

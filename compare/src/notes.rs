@@ -1,4 +1,4 @@
-//! Shows again, by runs of the crate, where it and document 01 part (NOTES A1 to A6).
+//! Shows again, by runs of the crate, where it and document 01 part (docs/DIFFERENCES.md, A1 to A6).
 
 use crate::show::show;
 use redis_protocol::resp2::{self, types::Resp2Frame};

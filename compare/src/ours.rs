@@ -55,7 +55,7 @@ pub struct Rows<'a> {
     pub buf: &'a [u8],
     pub words: &'a [u64],
     pub protocol: Protocol,
-    /// Signs of the zero doubles met: the crate leaves to chance whether 0 and -0 are one key (NOTES A4).
+    /// Signs of the zero doubles met: the crate leaves to chance whether 0 and -0 are one key (docs/DIFFERENCES.md, A4).
     pub zeros: [bool; 2],
 }
 

@@ -11,7 +11,7 @@ pub struct Tally {
     pub refused: [u64; 15],
     /// Buffers whose declared count was put down for the crate's sake.
     pub put_down: u64,
-    /// Buffers with 0 and -0 among keys, which the crate leaves to chance (NOTES A4).
+    /// Buffers with 0 and -0 among keys, which the crate leaves to chance (docs/DIFFERENCES.md, A4).
     pub chance: u64,
     /// Calls on tables exactly full, short or with words to spare.
     pub tables: u64,

@@ -1,10 +1,9 @@
 -- What the promise of a decode gives, for every decoder: one answer and one table, and demand 3.
-use mathlib.Core.Path.{_≡_, refl, sym, ap, subst, _∙_}
+use mathlib.Core.Path.{_≡_, sym, ap, subst, _∙_}
 use mathlib.Core.List.{List, _++_}
-use Prim.Native.Nat.{ℕ, _*_, _≤_, _<_}
+use Prim.Native.Nat.{ℕ, _≤_, _<_}
 use native.Mathlib.Omega.{arith}
 use lib.ListN.{length, take}
-use lib.Seq.{sets}
 use Rattle.meaning.specs.Kinds.{Profile}
 use Rattle.meaning.specs.Rows.{rowsIn}
 use Rattle.meaning.specs.Decode.{frame, marker, refusal, waiting, decode}

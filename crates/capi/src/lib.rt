@@ -1,6 +1,5 @@
 // The calls that C and Rust link: each is thin, and asks nothing of its caller.
 use answers::Told;
-ghost use mathlib.Core.Path.{_≡_};
 ghost use Rattle.meaning.specs.Kinds.{resp2};
 ghost use Rattle.meaning.specs.Digits.{digitsOf, signedDigitsOf};
 ghost use Rattle.capi.specs.Calls.{DecodeCall, DigitsCall};

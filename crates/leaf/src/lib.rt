@@ -2,7 +2,6 @@
 use text::Cursor;
 use text::Ruled;
 use text::number::NumberLine;
-ghost use mathlib.Core.Path.{_≡_};
 ghost use Prim.Native.Nat.{_≤_};
 ghost use lib.ListN.{length};
 ghost use Rattle.meaning.specs.Frames.{textLineP, numberP, bulkP};

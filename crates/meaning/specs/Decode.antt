@@ -1,6 +1,5 @@
 -- What a decode gives: the answer, the bytes and rows it took, and the rows.
 use mathlib.Core.List.{List}
-use mathlib.Core.Bool.{Bool, true, false}
 use Prim.Native.Nat.{ℕ}
 use lib.Dec.{eqb}
 use Rattle.meaning.specs.Demand.{pick, serves}

@@ -1,10 +1,10 @@
 -- Demand 3 and the bounds of an answer, for every decoder: restated of `decode` from the laws of programs.
-use mathlib.Core.Path.{_≡_, refl, sym, ap, subst, _∙_}
-use mathlib.Core.List.{List, [], _∷_, _++_}
+use mathlib.Core.Path.{_≡_, sym, ap, subst, _∙_}
+use mathlib.Core.List.{List, [], _++_}
 use mathlib.Core.Bool.{Bool, true, false}
-use Prim.Native.Nat.{ℕ, zero, suc, _+_, _-_, _*_, _≤_, _<_}
+use Prim.Native.Nat.{ℕ, _+_, _-_, _*_, _≤_, _<_}
 use native.Mathlib.Omega.{arith}
-use lib.ListN.{length, take, drop, take-append-drop}
+use lib.ListN.{length, take}
 use lib.Dec.{eqb}
 use Rattle.meaning.specs.Demand.{pick}
 use Rattle.meaning.specs.Prog.{Out, done, refused, unfinished, run}

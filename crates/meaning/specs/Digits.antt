@@ -1,6 +1,5 @@
 -- The decimal digits of a number: 20 bytes filled with 0 on the left, and how many of them are unused.
 use mathlib.Core.List.{List, [], _∷_, _++_}
-use mathlib.Core.Bool.{Bool, true, false}
 use Prim.Native.Nat.{ℕ, zero, suc, _+_, _-_, _/_, _%_, _^_}
 use lib.IntN.{ℤ, pos, negsuc}
 use lib.ListN.{drop, set}

@@ -1,6 +1,6 @@
 -- The RESP2 encoding of rows, its length, and which tables have one.
 use mathlib.Core.List.{List, [], _∷_, _++_}
-use mathlib.Core.Bool.{Bool, true, false, _&&_, _||_}
+use mathlib.Core.Bool.{Bool, _&&_, _||_}
 use Prim.Native.Nat.{ℕ, zero, suc, _+_, _-_, _*_}
 use lib.ListN.{length, take, drop}
 use lib.Dec.{leb, ltb, eqb}

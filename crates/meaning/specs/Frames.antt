@@ -1,11 +1,11 @@
 -- What each kind of frame asks for and gives: the decoders as programs, over the profile.
-use mathlib.Core.List.{List, [], _∷_}
-use mathlib.Core.Bool.{Bool, true, false, _&&_, _||_}
+use mathlib.Core.List.{List, []}
+use mathlib.Core.Bool.{Bool, true, _&&_, _||_}
 use mathlib.Core.Option.{Option, none, some}
 use Prim.Native.Nat.{ℕ, zero, suc, _+_, _-_, _*_, _^_}
 use lib.ListN.{length, take, getD}
 use lib.Dec.{ltb, eqb}
-use Rattle.meaning.specs.Demand.{Demand, bytes, line, pick}
+use Rattle.meaning.specs.Demand.{bytes, line, pick}
 use Rattle.meaning.specs.Prog.{Prog, ret, refuse, room, here, ask, bind}
 use Rattle.meaning.specs.Text.{Num, bad, plus, minus, signed, Length, wrong, count, minusOne, plainLength, signedLength, double, boolean, format, parts, is, codes, same}
 use Rattle.meaning.specs.Kinds.{Profile, kindOf, mayCarry}

@@ -1,15 +1,14 @@
 -- What heads and frames keep: a frame takes as many rows as its span says, whatever the decoder and the depth, and RESP2 makes no marker.
-use mathlib.Core.Path.{_≡_, refl, sym, ap, subst, _∙_}
-use mathlib.Core.List.{List, [], _∷_}
+use mathlib.Core.Path.{_≡_, refl, sym, ap, subst}
+use mathlib.Core.List.{List, []}
 use mathlib.Core.Bool.{Bool, true, false, _||_, _&&_}
 use mathlib.Core.Option.{Option, none, some}
-use Prim.Native.Nat.{ℕ, zero, suc, _+_, _-_, _*_}
+use Prim.Native.Nat.{ℕ, zero, suc, _+_, _-_}
 use native.Mathlib.Omega.{arith}
-use native.Mathlib.Numerals.{add-one}
 use lib.ListN.{length, take, getD}
 use lib.Dec.{ltb, eqb}
 use Rattle.meaning.specs.Demand.{pick}
-use Rattle.meaning.specs.Prog.{Prog, ret, refuse, room, here, ask, bind}
+use Rattle.meaning.specs.Prog.{Prog, ret, refuse, room, here, ask}
 use Rattle.meaning.specs.ProgLaws.{Says, says-pick, says-weighs, says-gives, Weighs, weighs-bind, weighs-more, weighs-pick, Gives, gives-bind, gives-else}
 use Rattle.meaning.specs.Text.{Num, bad, plus, minus, signed, Length, wrong, count, minusOne, double, boolean, format, parts, is}
 use borrow.Author.Tests.{ne-eqb}
@@ -17,7 +16,7 @@ use Rattle.meaning.specs.Kinds.{Profile, resp2, kindOf, mayCarry}
 use Rattle.meaning.specs.KindsLaws.{kind2-elim}
 use Rattle.meaning.specs.Rows.{headOf, Forest, end, item, join, lastKind, mayHold, span}
 use Rattle.meaning.specs.RowsLaws.{span-join}
-use Rattle.meaning.specs.Frames.{Step, leaf, greeting, holder, textLineP, numberP, numbered, sized, absent, lengthFor, lengthP, bulkP, blankP, booleanP, judged, doubleP, verbatimP, chunkP, part, greets, authFields, fieldOf, helloOf, helloP, holderP, headP, repeat, heldP, roomsP, restP, bodyP, typeP, carriesP, annotatedP, attributeP, frameP, decodeP}
+use Rattle.meaning.specs.Frames.{Step, leaf, greeting, holder, textLineP, numberP, numbered, sized, absent, lengthFor, lengthP, bulkP, blankP, booleanP, judged, doubleP, verbatimP, chunkP, part, greets, helloOf, helloP, holderP, headP, repeat, heldP, roomsP, restP, bodyP, carriesP, annotatedP, attributeP, frameP, decodeP}
 
 -- ---- heads
 

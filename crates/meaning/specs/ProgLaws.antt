@@ -10,7 +10,7 @@ use lib.ListN.{length, take, drop, length-drop}
 use lib.Seq.{take-nil, take-append-le, drop-append-le, take-take}
 use lib.Dec.{ltb, leb}
 use borrow.Author.Tests.{ltb-true, leb-true, leb-false, lt-ltb}
-use Rattle.meaning.specs.Demand.{Demand, serves, pick}
+use Rattle.meaning.specs.Demand.{serves, pick}
 use Rattle.meaning.specs.DemandLaws.{serves-settles, serves-more, serves-cut}
 use Rattle.meaning.specs.Prog.{Prog, ret, refuse, room, here, ask, Out, done, refused, unfinished, roomed, served, run, bind}
 

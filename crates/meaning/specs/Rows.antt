@@ -1,7 +1,7 @@
 -- Frames as a tree, and the rows that they fill.
 use mathlib.Core.List.{List, [], _∷_, _++_}
 use mathlib.Core.Bool.{Bool, true, false, _&&_, _||_, not}
-use Prim.Native.Nat.{ℕ, zero, suc, _+_, _*_, _/_, min}
+use Prim.Native.Nat.{ℕ, _+_, _/_, min}
 use lib.Dec.{eqb}
 use Rattle.meaning.specs.Demand.{pick}
 use Rattle.meaning.specs.Kinds.{mayKey}

@@ -1,10 +1,10 @@
 -- How joined frames' rows stand: one after the other.
-use mathlib.Core.Path.{_≡_, refl, sym, ap, _∙_}
-use mathlib.Core.List.{List, [], _∷_, _++_, append-assoc}
-use Prim.Native.Nat.{ℕ, _+_, _*_}
+use mathlib.Core.Path.{_≡_, refl, ap}
+use mathlib.Core.List.{[], _++_, append-assoc}
+use Prim.Native.Nat.{_+_, _*_}
 use native.Mathlib.Omega.{arith}
 use lib.ListN.{length, length-append}
-use Rattle.meaning.specs.Rows.{Head, Forest, end, item, join, lastKind, span, words, rowWidth}
+use Rattle.meaning.specs.Rows.{Forest, end, item, join, span, words, rowWidth}
 
 pub join-end : (f : Forest) → join f end ≡ f
 unfolding join

@@ -5,13 +5,12 @@ use mathlib.Core.Bool.{Bool, true, false}
 use Prim.Native.Nat.{ℕ, zero, suc, _^_, _-_}
 use Prim.Native.String as Literal
 use Prim.Native.String.{String}
-use Prim.Native.Char.{Char, code}
+use Prim.Native.Char.{code}
 use lib.Dec.{eqb}
 use lib.ListN.{length}
 use Rattle.meaning.specs.Demand.{pick}
 use Rattle.meaning.specs.Kinds.{Profile, resp2, resp3, resp3-stream}
 use Rattle.meaning.specs.Decode.{Answer, frame, marker, refusal, waiting, decode}
-use Rattle.meaning.specs.Encode as Encode
 use Rattle.meaning.specs.Encode.{Encoded, written, short, encode}
 
 -- the bytes of a text

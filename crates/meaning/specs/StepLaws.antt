@@ -1,22 +1,22 @@
 -- One step of a run: what the walks of the decoders are proved by.
-use mathlib.Core.Path.{_≡_, refl, sym, ap, subst, _∙_}
-use mathlib.Core.List.{List, [], _∷_}
-use mathlib.Core.Bool.{Bool, true, false, _&&_, _||_}
-use mathlib.Core.Option.{Option, none, some}
-use Prim.Native.Nat.{ℕ, zero, suc, _+_, _-_, _≤_, _<_}
+use mathlib.Core.Path.{_≡_, refl, sym, ap, _∙_}
+use mathlib.Core.List.{List, []}
+use mathlib.Core.Bool.{Bool, true, false, _&&_}
+use mathlib.Core.Option.{none, some}
+use Prim.Native.Nat.{ℕ, suc, _+_, _-_, _≤_, _<_}
 use native.Mathlib.Omega.{arith}
 use lib.ListN.{length, take, drop, getD, length-drop}
 use lib.Seq.{drop-cons}
-use lib.Dec.{ltb, leb, eqb}
+use lib.Dec.{ltb, eqb}
 use borrow.Author.Tests.{lt-ltb, le-ltb, le-leb, lt-leb, ne-eqb, ltb-true, ltb-false}
 use Rattle.meaning.specs.Demand.{Demand, bytes, pick, serves}
-use Rattle.meaning.specs.Prog.{Prog, ret, refuse, room, here, ask, Out, done, refused, unfinished, roomed, served, run, bind}
+use Rattle.meaning.specs.Prog.{Prog, ret, refuse, ask, Out, done, refused, unfinished, run, bind}
 use Rattle.meaning.specs.ProgLaws.{then, run-bind}
 use Rattle.meaning.specs.Kinds.{Profile, resp2, kindOf}
 use Rattle.meaning.specs.KindsLaws.{kind2-elim}
-use Rattle.meaning.specs.Rows.{Head, headOf, Forest, end, item, join, lastKind, mayHold}
-use Rattle.meaning.specs.Decode.{Answer, answer, depthLimit, outcome, decode}
-use Rattle.meaning.specs.Frames.{Step, leaf, greeting, holder, headP, repeat, heldP, roomsP, restP, bodyP, typeP, attributeP, frameP, decodeP}
+use Rattle.meaning.specs.Rows.{headOf, Forest, end, item, join, lastKind, mayHold}
+use Rattle.meaning.specs.Decode.{answer, depthLimit, outcome, decode}
+use Rattle.meaning.specs.Frames.{leaf, holder, headP, repeat, heldP, restP, bodyP, typeP, attributeP, frameP, decodeP}
 
 -- ---- demands
 

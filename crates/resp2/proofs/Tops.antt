@@ -1,18 +1,17 @@
 -- A walk without a table and then one over it, and the whole call.
 use mathlib.Core.Path.{_≡_, refl, sym, ap, subst, _∙_}
 use mathlib.Core.List.{List, [], _∷_, _++_}
-use mathlib.Core.Bool.{Bool, true, false, _&&_}
-use Prim.Native.Nat.{ℕ, zero, suc, _+_, _*_, _≤_, _<_}
+use mathlib.Core.Bool.{_&&_}
+use Prim.Native.Nat.{ℕ, _+_, _≤_, _<_}
 use native.Mathlib.Omega.{arith}
 use lib.ListN.{length, getD}
-use lib.Seq.{sets}
 use lib.Dec.{eqb}
 use borrow.Author.Tests.{ne-eqb}
 use Rattle.meaning.specs.Demand.{pick}
 use Rattle.meaning.specs.Prog.{Prog, ret, refuse, bind, run, Out, done, refused, unfinished}
 use Rattle.meaning.specs.ProgLaws.{then, When, Within, Bounded, bounded, run-bind, gives-run}
 use Rattle.meaning.specs.Kinds.{resp2, kindOf}
-use Rattle.meaning.specs.Rows.{headOf, Forest, end, item, lastKind, words, rowWidth, rowsIn}
+use Rattle.meaning.specs.Rows.{headOf, Forest, end, item, lastKind, rowsIn}
 use Rattle.meaning.specs.Frames.{Step, holder, holderP, restP, frameP, headP}
 use Rattle.meaning.specs.FramesLaws.{frame-no-marker}
 use Rattle.meaning.specs.Decode.{answer, outcome, decode}

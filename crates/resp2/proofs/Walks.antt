@@ -1,24 +1,20 @@
 -- A walk's rows, and the loop over an array's frames.
 use mathlib.Core.Path.{_≡_, refl, sym, ap, subst, _∙_}
-use mathlib.Core.List.{List, [], _∷_, _++_, append-nil}
-use mathlib.Core.Bool.{Bool, true, false}
-use Prim.Native.Nat.{ℕ, zero, suc, _+_, _-_, _*_, _≤_, _<_}
+use mathlib.Core.List.{List, [], _∷_, append-nil}
+use Prim.Native.Nat.{ℕ, suc, _+_, _-_, _*_, _≤_, _<_}
 use native.Mathlib.Omega.{arith}
 use lib.ListN.{length}
 use lib.Seq.{sets, length-sets}
-use lib.Dec.{eqb}
 use borrow.Author.Tests.{ne-eqb}
-use Rattle.meaning.specs.Demand.{pick}
 use Rattle.meaning.specs.Prog.{Prog, run, Out, done, refused, unfinished}
-use Rattle.meaning.specs.ProgLaws.{then, When, Within, Bounded, bounded, gives-run, weighs-run}
-use Rattle.meaning.specs.Kinds.{resp2, kindOf}
-use Rattle.meaning.specs.KindsLaws.{kind2-elim}
+use Rattle.meaning.specs.ProgLaws.{then, Within, Bounded, bounded, gives-run, weighs-run}
+use Rattle.meaning.specs.Kinds.{resp2}
 use Rattle.meaning.specs.Rows.{headOf, Forest, end, item, join, lastKind, span, words, rowWidth}
 use Rattle.meaning.specs.RowsLaws.{join-end, join-assoc, span-join, words-join, length-words}
-use Rattle.meaning.specs.Frames.{Step, leaf, holder, headP, typeP, repeat, restP, frameP}
+use Rattle.meaning.specs.Frames.{Step, holder, headP, typeP, repeat, restP, frameP}
 use Rattle.meaning.specs.FramesLaws.{frame-fills, frame-no-marker}
 use Rattle.meaning.specs.StepLaws.{mapOut, repeat-none, repeat-more, next, holder-run, array-holds, leaf-run, frame-deep, frame-full, frame-run}
-use Rattle.rows.specs.Put.{putRow, rowWords}
+use Rattle.rows.specs.Put.{putRow}
 use Rattle.rows.specs.RowLaws.{put-there, sets-append, sets-before}
 use Rattle.rows.specs.declared.Row.{Row}
 use Rattle.leaf.specs.declared.Leaf.the-variants as Leaf

@@ -1,7 +1,7 @@
 -- A top frame that is an array: its walks, and what they leave.
 use mathlib.Core.Path.{_≡_}
 use mathlib.Core.List.{List}
-use Prim.Native.Nat.{ℕ, _≤_, _<_, _*_}
+use Prim.Native.Nat.{ℕ, _≤_, _<_}
 use lib.ListN.{length}
 use lib.Seq.{sets}
 use Rattle.meaning.specs.Prog.{bind, run, Out, done, refused, unfinished}

@@ -1,6 +1,6 @@
 -- `resp2::walk::array` and `resp2::walk::frame` meet their contracts. The measure is the depth that is left; the loop's invariant is `Loop`.
-use mathlib.Core.Path.{_≡_, refl, sym, ap, subst, _∙_}
-use Prim.Native.Nat.{_+_, _-_, _*_, _≤_}
+use mathlib.Core.Path.{_≡_, sym, ap, subst, _∙_}
+use Prim.Native.Nat.{_+_, _-_, _*_}
 use native.Mathlib.Omega.{arith}
 use borrow.Author.Needs.{needs}
 use Rattle.meaning.specs.Prog.{run}
@@ -9,9 +9,7 @@ use Rattle.meaning.specs.Rows.{headOf, end, item}
 use Rattle.meaning.specs.Frames.{frameP, restP, holder, typeP, headP}
 use Rattle.meaning.specs.StepLaws.{mapOut}
 use Rattle.resp2.specs.Heads.{Heads}
-use Rattle.resp2.specs.Walks.{Walks, Start, Inside}
-use Rattle.resp2.specs.declared.head.Head.{Head}
-use Rattle.resp2.specs.declared.walk.Walk.{Walk}
+use Rattle.resp2.specs.Walks.{Walks}
 use Rattle.resp2.proofs.Walks.{Loop, loop-start, loop-step, loop-refused, loop-unfinished, loop-end, array-run, own-row, walks-refused, walks-unfinished, walks-to, walks-as, frame-0, frame-no-room, frame-refused, frame-unfinished, walks-leaf, frame-array, head-next, refused-run, unfinished-run}
 use Prim.Native.Nat.{ℕ, _<_}
 use borrow.Fn.Kinds.{In}
