@@ -177,13 +177,14 @@ bodyP π p w k = bind (headP π k) (restP p w)
 abbrev pub typeP : {A : Type 0} → Profile → (ℕ → Prog A) → Prog A
 typeP π f = ask (bytes 1) (λ c. f (kindOf π (getD c 0 0)))
 
--- The frame that an attribute a belongs to: judged when it is complete. w: 1 + the index of the attribute's row.
-unfoldable pub carriesP : ℕ → Forest → Forest → Prog Forest
-carriesP w a f = pick (mayCarry (lastKind f)) (ret (join a f)) (refuse 9)
+-- The frame f that an attribute a belongs to is judged when it is complete.
+unfoldable pub carriesP : Forest → Forest → Prog Forest
+carriesP a f = pick (mayCarry (lastKind f)) (ret (join a f)) (refuse 9)
 
+-- w: 1 + the index of the attribute's row
 unfoldable pub annotatedP : Profile → Prog Forest → ℕ → Forest → Prog Forest
 unfolding bind headP restP kindOf carriesP
-annotatedP π p w a = room (typeP π (λ k. pick (eqb k 17) (refuse 7) (bind (bodyP π p w k) (carriesP w a))))
+annotatedP π p w a = room (typeP π (λ k. pick (eqb k 17) (refuse 7) (bind (bodyP π p w k) (carriesP a))))
 
 -- an attribute (RESP, "Attributes": "followed by the actual reply"), and its frame at the same depth
 unfoldable pub attributeP : Profile → Prog Forest → Prog Forest

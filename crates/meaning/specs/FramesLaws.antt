@@ -144,7 +144,7 @@ annotated-fills π p h w a = λ c.
     let k = kindOf π (getD c 0 0) in
     let e : 1 + span a ≡ span a + 1 = omega arith in
     weighs-pick span (span a + 1) (eqb k 17) (refuse 7) _ tt
-    (weighs-bind (λ f. span f + span a) span (bodyP π p w k) (carriesP w a) (span a + 1)
+    (weighs-bind (λ f. span f + span a) span (bodyP π p w k) (carriesP a) (span a + 1)
     (subst (λ (x : ℕ). Weighs x (λ f. span f + span a) (bodyP π p w k)) e (weighs-more span (bodyP π p w k) 1 (span a) (body-fills π p h w k)))
     (λ f. weighs-pick span (span f + span a) (mayCarry (lastKind f)) (ret (join a f)) (refuse 9) (omega (arith, span-join a f)) tt))
 
