@@ -1,39 +1,243 @@
-/* Calls each function of imrazgul.h with a known input, so that a wrong declaration is caught. */
+/* Calls each function of imrazgul.h with known inputs, and looks at every field that it gives back and at every word
+ * and byte that it was lent, and at those around them: what is exchanged, ignored or of another length in the header or
+ * in the library is seen. include/test compiles and runs it.
+ *
+ * A new call takes a list of cases and a line in main, or a function beside those here where it has another shape.
+ *
+ * No header of the C library is included: include/x86-64 says why. */
 #include "imrazgul.h"
-#include <stdio.h>
-#include <string.h>
 
-static int bad;
+int printf(const char *format, ...);
 
-static void same(const char *what, int right) {
-    if (!right) {
-        printf("wrong: %s\n", what);
-        bad = 1;
+#define COUNT(list) (sizeof(list) / sizeof((list)[0]))
+
+static unsigned looks, wrong;
+
+/* Looks at one number; the first that are wrong are printed. */
+static void same(const char *call, size_t number, const char *what, uint64_t got, uint64_t want) {
+    looks++;
+    if (got != want && wrong++ < 20) {
+        printf("%s, case %u: %s is 0x%llx, and should be 0x%llx\n", call, (unsigned)number, what,
+               (unsigned long long)got, (unsigned long long)want);
     }
 }
 
-static void decodes(const char *what, const char *text, struct imrazgul_decoded want, const uint64_t row[6]) {
-    uint64_t table[12];
-    memset(table, 0x5a, sizeof table);
-    struct imrazgul_decoded got = imrazgul_resp2_decode((const uint8_t *)text, strlen(text), table, 12);
-    same(what, memcmp(&got, &want, sizeof got) == 0 && (row == NULL || memcmp(table, row, 48) == 0));
-    same("a row that is not used is as it was", table[row == NULL ? 0 : 6] == 0x5a5a5a5a5a5a5a5a);
+/* What lies around the part that a call is lent, to see that it stays as it was. */
+enum { AROUND = 16 };
+
+/* ---- decoders ---- */
+
+enum { MOST_ROWS = 4100 };
+
+typedef struct imrazgul_decoded decoder(const uint8_t *src, size_t src_len, uint64_t *table, size_t words);
+
+/* src_len bytes of src decoded into a table of so many words. Where src goes on behind src_len, one byte more would
+ * change the answer. */
+struct decode_case {
+    const char *src;
+    size_t src_len;
+    size_t words;
+    struct imrazgul_decoded want;
+    const uint64_t *rows; /* the words of want.rows rows */
+};
+
+/* fields by name, so that their order in the header matters */
+#define FRAME(bytes, count) \
+    { .answer = IMRAZGUL_FRAME, .refusal = 0, .consumed = bytes, .rows = count }
+#define UNFINISHED \
+    { .answer = IMRAZGUL_UNFINISHED, .refusal = 0, .consumed = 0, .rows = 0 }
+#define REFUSED(why) \
+    { .answer = IMRAZGUL_REFUSED, .refusal = why, .consumed = 0, .rows = 0 }
+#define ROWS(...) \
+    (const uint64_t[]) { __VA_ARGS__ }
+#define NONE 0
+
+/* A word that no row holds, another at each place. */
+static uint64_t mark(size_t i) { return 0xc3a55a3c00000000u + i; }
+
+static void decodes(const char *call, decoder *decode, size_t number, const struct decode_case *c) {
+    static uint64_t lent[AROUND + 6 * MOST_ROWS + AROUND];
+    for (size_t i = 0; i < COUNT(lent); i++) {
+        lent[i] = mark(i);
+    }
+    struct imrazgul_decoded got = decode((const uint8_t *)c->src, c->src_len, lent + AROUND, c->words);
+    same(call, number, "answer", got.answer, c->want.answer);
+    same(call, number, "refusal", got.refusal, c->want.refusal);
+    same(call, number, "consumed", got.consumed, c->want.consumed);
+    same(call, number, "rows", got.rows, c->want.rows);
+    for (size_t i = 0; i < COUNT(lent); i++) {
+        int used = i >= AROUND && i - AROUND < 6 * c->want.rows;
+        same(call, number, used ? "a word of a row" : "a word that is not used", lent[i],
+             used ? c->rows[i - AROUND] : mark(i));
+    }
+}
+
+static void all_decode(const char *call, decoder *decode, const struct decode_case *cases, size_t count) {
+    for (size_t i = 0; i < count; i++) {
+        decodes(call, decode, i, &cases[i]);
+    }
+}
+
+static const struct decode_case resp2[] = {
+    /* 0: each kind, and where its words stand */
+    {"+OK\r\n", 5, 12, FRAME(5, 1), ROWS(1, 1, 3, 0, 1, 0)},
+    {"-ERR no\r\n", 9, 12, FRAME(9, 1), ROWS(2, 1, 7, 0, 1, 0)},
+    {":-9223372036854775807\r\n", 23, 12, FRAME(23, 1), ROWS(3, 0x8000000000000001u, 0, 0, 1, 0)},
+    {"$-1\r\n", 5, 12, FRAME(5, 1), ROWS(6, 0, 0, 0, 1, 0)},
+    {"*-01\r\n", 6, 12, FRAME(6, 1), ROWS(6, 0, 0, 0, 1, 0)},
+    {"$3\r\nabcXY", 9, 12, FRAME(9, 1), ROWS(7, 4, 7, 0, 1, 0)},
+    {"*0\r\n", 4, 12, FRAME(4, 1), ROWS(13, 0, 0, 0, 1, 0)},
+    {"*2\r\n*1\r\n:7\r\n$2\r\nhi\r\n", 20, 27, FRAME(20, 4),
+     ROWS(13, 0, 0, 2, 4, 0, 13, 0, 0, 1, 2, 0, 3, 7, 0, 0, 1, 0, 7, 16, 18, 0, 1, 0)},
+    /* 8: bytes behind the frame */
+    {"+OK\r\n:7\r\n", 9, 12, FRAME(5, 1), ROWS(1, 1, 3, 0, 1, 0)},
+    {"*1\r\n:7\r\n:8\r\n", 12, 13, FRAME(8, 2), ROWS(13, 0, 0, 1, 2, 0, 3, 7, 0, 0, 1, 0)},
+    /* 10: unfinished, the last with a first row that could have been written */
+    {"+OK\r\n", 0, 12, UNFINISHED, NONE},
+    {"+OK\r\n", 4, 12, UNFINISHED, NONE},
+    {"$3\r\nabcXY", 8, 12, UNFINISHED, NONE},
+    {"*2\r\n:7\r\n:8\r\n", 11, 24, UNFINISHED, NONE},
+    /* 14: each refusal */
+    {"?1\r\n", 4, 12, REFUSED(IMRAZGUL_BAD_TYPE), NONE},
+    {"$?\r\n", 4, 12, REFUSED(IMRAZGUL_BAD_LENGTH), NONE},
+    {":1.5\r\n", 6, 12, REFUSED(IMRAZGUL_BAD_VALUE), NONE},
+    {"*2\r\n:7\r\n:x\r\n", 12, 24, REFUSED(IMRAZGUL_BAD_VALUE), NONE},
+    /* 18: tables without a row, exactly full, and too short by a word */
+    {"+OK\r\n", 5, 0, REFUSED(IMRAZGUL_TABLE_FULL), NONE},
+    {"+OK\r\n", 0, 0, REFUSED(IMRAZGUL_TABLE_FULL), NONE},
+    {"+OK\r\n", 5, 5, REFUSED(IMRAZGUL_TABLE_FULL), NONE},
+    {"+OK\r\n", 5, 6, FRAME(5, 1), ROWS(1, 1, 3, 0, 1, 0)},
+    {"*1\r\n:7\r\n", 8, 11, REFUSED(IMRAZGUL_TABLE_FULL), NONE},
+    {"*1\r\n:7\r\n", 8, 12, FRAME(8, 2), ROWS(13, 0, 0, 1, 2, 0, 3, 7, 0, 0, 1, 0)},
+};
+
+/* Puts a text, and a number in four digits, at the end of a source that is being made. */
+static size_t put(char *src, size_t at, const char *text) {
+    while (*text != 0) {
+        src[at++] = *text++;
+    }
+    return at;
+}
+
+static size_t put_number(char *src, size_t at, size_t n) {
+    for (size_t unit = 1000; unit > 0; unit /= 10) {
+        src[at++] = (char)('0' + n / unit % 10);
+    }
+    return put(src, at, "\r\n");
+}
+
+static void put_row(uint64_t *rows, size_t row, uint64_t kind, uint64_t value, uint64_t children, uint64_t span) {
+    const uint64_t words[6] = {kind, value, 0, children, span, 0};
+    for (size_t i = 0; i < 6; i++) {
+        rows[6 * row + i] = words[i];
+    }
+}
+
+/* Depth 32 is taken, and depth 33 refused. */
+static void depth(const char *call, decoder *decode) {
+    static char src[33 * 4];
+    static uint64_t rows[6 * 32];
+    for (size_t i = 0; i < 32; i++) {
+        put_row(rows, i, 13, 0, i < 31, 32 - i);
+    }
+    for (size_t deep = 32; deep <= 33; deep++) {
+        size_t at = 0;
+        for (size_t i = 1; i < deep; i++) {
+            at = put(src, at, "*1\r\n");
+        }
+        at = put(src, at, "*0\r\n");
+        struct decode_case c = {src, at, 6 * 40, FRAME(at, 32), rows};
+        if (deep == 33) {
+            c.want = (struct imrazgul_decoded)REFUSED(IMRAZGUL_TOO_DEEP);
+        }
+        decodes(call, decode, deep, &c);
+    }
+}
+
+/* An array of 4,095 numbers takes the 4,096 rows that count. One number more is refused, though the table has more
+ * rows. */
+static void rows_that_count(const char *call, decoder *decode) {
+    static char src[7 * 4097];
+    static uint64_t rows[6 * 4096];
+    put_row(rows, 0, 13, 0, 4095, 4096);
+    for (size_t i = 0; i < 4095; i++) {
+        put_row(rows, 1 + i, 3, i, 0, 1);
+    }
+    for (size_t n = 4095; n <= 4096; n++) {
+        size_t at = put_number(src, put(src, 0, "*"), n);
+        for (size_t i = 0; i < n; i++) {
+            at = put_number(src, put(src, at, ":"), i);
+        }
+        struct decode_case c = {src, at, 6 * MOST_ROWS, FRAME(at, 4096), rows};
+        if (n == 4096) {
+            c.want = (struct imrazgul_decoded)REFUSED(IMRAZGUL_TABLE_FULL);
+        }
+        decodes(call, decode, n, &c);
+    }
+}
+
+/* ---- digits ---- */
+
+/* 20 bytes to lend, and what lies around them. */
+static uint8_t digits[AROUND + 20 + AROUND];
+
+static uint8_t *lend_digits(void) {
+    for (size_t i = 0; i < COUNT(digits); i++) {
+        digits[i] = (uint8_t)(0x80 + i);
+    }
+    return digits + AROUND;
+}
+
+static void look_at_digits(const char *call, size_t number, uint64_t got, uint64_t unused, const char *bytes) {
+    same(call, number, "the count of unused bytes", got, unused);
+    for (size_t i = 0; i < COUNT(digits); i++) {
+        int lent = i >= AROUND && i < AROUND + 20;
+        same(call, number, lent ? "a byte" : "a byte around", digits[i], lent ? (uint8_t)bytes[i - AROUND] : 0x80 + i);
+    }
+}
+
+static void u64_digits(void) {
+    static const struct {
+        uint64_t n, unused;
+        const char *bytes;
+    } cases[] = {
+        {0, 19, "00000000000000000000"},
+        {7, 19, "00000000000000000007"},
+        {70, 18, "00000000000000000070"},
+        {4294967296u, 10, "00000000004294967296"},
+        {9223372036854775808u, 1, "09223372036854775808"},
+        {12345678901234567890u, 0, "12345678901234567890"},
+        {UINT64_MAX, 0, "18446744073709551615"},
+    };
+    for (size_t i = 0; i < COUNT(cases); i++) {
+        uint64_t got = imrazgul_u64_digits(cases[i].n, lend_digits());
+        look_at_digits("imrazgul_u64_digits", i, got, cases[i].unused, cases[i].bytes);
+    }
+}
+
+static void i64_digits(void) {
+    static const struct {
+        int64_t n;
+        uint64_t unused;
+        const char *bytes;
+    } cases[] = {
+        {0, 19, "00000000000000000000"},          {-1, 18, "000000000000000000-1"},
+        {70, 18, "00000000000000000070"},         {-70, 17, "00000000000000000-70"},
+        {-4294967296, 9, "000000000-4294967296"}, {1234567890123456789, 1, "01234567890123456789"},
+        {INT64_MAX, 1, "09223372036854775807"},   {INT64_MIN, 0, "-9223372036854775808"},
+    };
+    for (size_t i = 0; i < COUNT(cases); i++) {
+        uint64_t got = imrazgul_i64_digits(cases[i].n, lend_digits());
+        look_at_digits("imrazgul_i64_digits", i, got, cases[i].unused, cases[i].bytes);
+    }
 }
 
 int main(void) {
-    const uint64_t ok[6] = {1, 1, 3, 0, 1, 0}, null[6] = {6, 0, 0, 0, 1, 0}, blob[6] = {7, 4, 7, 0, 1, 0};
-    decodes("P2", "+OK\r\n", (struct imrazgul_decoded){IMRAZGUL_FRAME, 0, 5, 1}, ok);
-    decodes("P3", "+OK\r", (struct imrazgul_decoded){IMRAZGUL_UNFINISHED, 0, 0, 0}, NULL);
-    decodes("P4", "$-1\r\n", (struct imrazgul_decoded){IMRAZGUL_FRAME, 0, 5, 1}, null);
-    decodes("P5", "*-01\r\n", (struct imrazgul_decoded){IMRAZGUL_FRAME, 0, 6, 1}, null);
-    decodes("P6", "$3\r\nabcXY", (struct imrazgul_decoded){IMRAZGUL_FRAME, 0, 9, 1}, blob);
-    decodes("$?", "$?\r\n", (struct imrazgul_decoded){IMRAZGUL_REFUSED, IMRAZGUL_BAD_LENGTH, 0, 0}, NULL);
-
-    uint8_t bytes[20];
-    same("digits of 2^64 - 1", imrazgul_u64_digits(UINT64_MAX, bytes) == 0 && memcmp(bytes, "18446744073709551615", 20) == 0);
-    same("digits of -70", imrazgul_i64_digits(-70, bytes) == 17 && memcmp(bytes, "00000000000000000-70", 20) == 0);
-    if (!bad) {
-        printf("each call answers as it should\n");
-    }
-    return bad;
+    all_decode("imrazgul_resp2_decode", imrazgul_resp2_decode, resp2, COUNT(resp2));
+    depth("imrazgul_resp2_decode by depth", imrazgul_resp2_decode);
+    rows_that_count("imrazgul_resp2_decode by rows", imrazgul_resp2_decode);
+    u64_digits();
+    i64_digits();
+    printf("calls from C: %u looks, %u wrong\n", looks, wrong);
+    return wrong != 0;
 }

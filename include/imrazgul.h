@@ -1,4 +1,4 @@
-/* The calls of the RESP2 decoder and of the digits that `rt staticlib capi` builds into libcapi.a.
+/* The calls of the RESP2 decoder and of the digits that `rt staticlib imrazgul` builds into libimrazgul.a.
  *
  * A slice is passed as a pointer and a length. No pointer may be null, also where its length is 0; table is aligned
  * to 8 bytes; what one call is lent must not overlap, unless both parts are only read. Nothing else is asked of the

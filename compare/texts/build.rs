@@ -1,8 +1,8 @@
-//! Tells the linker where `rt staticlib texts_c` puts its library.
+//! Links libtext_calls.a; compare/texts/run names its folder as TEXT_CALLS_LIB.
 
 fn main() {
-    let folder = concat!(env!("CARGO_MANIFEST_DIR"), "/../../target/staticlib");
+    println!("cargo:rerun-if-env-changed=TEXT_CALLS_LIB");
+    let folder = std::env::var("TEXT_CALLS_LIB").expect("TEXT_CALLS_LIB names the folder of libtext_calls.a");
     println!("cargo:rustc-link-search=native={folder}");
-    println!("cargo:rerun-if-changed={folder}/libtexts_c.a");
-    println!("cargo:rerun-if-changed=build.rs");
+    println!("cargo:rerun-if-changed={folder}/libtext_calls.a");
 }

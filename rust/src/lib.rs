@@ -1,4 +1,4 @@
-//! Safe calls of the decoder and encoder that `rt staticlib capi` builds; the features name calls that a library may not
+//! Safe calls of the decoder and encoder that `rt staticlib imrazgul` builds; the features name calls that a library may not
 //! have yet.
 //!
 //! A table is lent by the caller: 6 words a row, at most 4,096 rows. docs/ has the meaning of its words.

@@ -1,4 +1,4 @@
-//! The list that the program `texts` replays: its answers are Rust's.
+//! The list that the program `check_texts` goes through: its answers are Rust's.
 
 use crate::ours::Answer;
 use crate::theirs;

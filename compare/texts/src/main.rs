@@ -2,7 +2,7 @@
 //!
 //!     compare-texts LIST
 //!
-//! LIST is the file of records that the program `texts` replays. The status is 1 where one text is judged differently.
+//! LIST is the file of records that the program `check_texts` goes through. The status is 1 where one text is judged differently.
 
 mod list;
 mod ours;

@@ -6,35 +6,35 @@ use lib.ListN.{length}
 use lib.Seq.{sets}
 use Rattle.meaning.specs.Kinds.{Profile}
 use Rattle.meaning.specs.Rows.{rowsIn}
-use Rattle.meaning.specs.Decode.{frame, marker, refusal, waiting, decode}
-use Rattle.meaning.specs.Decode as Meaning
+use Rattle.meaning.specs.Decode.{Outcome, frame, marker, refusal, waiting, decode}
 use Rattle.answers.specs.declared.Answer.{Answer}
 use Rattle.answers.specs.declared.Answer.the-variants.{Frame, Marker, Refused, Unfinished}
 use Rattle.answers.specs.declared.Told.{Told}
 
-abbrev pub answerOf : Meaning.Answer → Answer
+-- what settled a refusal is not told
+abbrev pub answerOf : Outcome → Answer
 answerOf (frame n u ws) = Frame n u
 answerOf (marker n u ws) = Marker n u
-answerOf (refusal k) = Refused k
+answerOf (refusal k n) = Refused k
 answerOf waiting = Unfinished
 
 -- the table after a decode: the rows from row 0 on, or as it was
-abbrev pub tableAfter : List ℕ → Meaning.Answer → List ℕ
+abbrev pub tableAfter : List ℕ → Outcome → List ℕ
 tableAfter t (frame n u ws) = sets t 0 ws
 tableAfter t (marker n u ws) = sets t 0 ws
-tableAfter t (refusal k) = t
+tableAfter t (refusal k n) = t
 tableAfter t waiting = t
 
--- what the definition says of a buffer and a table
-abbrev pub meant : Profile → List ℕ → List ℕ → Meaning.Answer
-meant π s t = decode π (rowsIn (length t)) s
+-- what the definition says of a buffer from a place on and a table, with d frames in one another at most
+abbrev pub meant : Profile → ℕ → List ℕ → ℕ → List ℕ → Outcome
+meant π d s at t = decode π d (rowsIn (length t)) s at
 
--- The promise of a decode of s into a table that held t₀ and now holds t₁.
-pub record Decoded (π : Profile) (s t₀ t₁ : List ℕ) (r : Answer) : Type 0 where
-  pub says : r ≡ answerOf (meant π s t₀)
-  pub leaves : t₁ ≡ tableAfter t₀ (meant π s t₀)
+-- The promise of a decode of s from a place on, into a table that held t₀ and now holds t₁.
+pub record Decoded (π : Profile) (d : ℕ) (s : List ℕ) (at : ℕ) (t₀ t₁ : List ℕ) (r : Answer) : Type 0 where
+  pub says : r ≡ answerOf (meant π d s at t₀)
+  pub leaves : t₁ ≡ tableAfter t₀ (meant π d s at t₀)
 
--- document 01's number and values for each case
+-- the number and values of each case
 abbrev pub toldOf : Answer → Told
 toldOf Unfinished = record { answer = 0; refusal = 0; consumed = 0; rows = 0 }
 toldOf (Frame n u) = record { answer = 1; refusal = 0; consumed = n; rows = u }

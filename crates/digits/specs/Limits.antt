@@ -28,7 +28,7 @@ limits =
     ∷ limit (negsuc 9223372036854775807) "-9223372036854775808" 0
     ∷ []
 
-unfoldable pub claimed : Limit → Meant.Digits
+unfoldable pub claimed : Limit → Meant.Numeral
 unfolding codes
 claimed l = record { bytes = codes (l .text); unused = l .unused }
 

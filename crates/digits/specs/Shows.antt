@@ -10,12 +10,12 @@ use Rattle.meaning.specs.Digits.{digitsOf, signedDigitsOf}
 use Rattle.meaning.specs.DigitLaws.{signed-length, signed-unused}
 use Rattle.digits.specs.declared.Digits.{Digits}
 
-pub record Shows (d : Meant.Digits) (r : Digits) : Type 0 where
+pub record Shows (d : Meant.Numeral) (r : Digits) : Type 0 where
   pub bytes : r .bytes ≡ d .bytes
   pub unused : r .unused ≡ d .unused
 
 -- any two results that a call's promise allows are equal, for both calls
-pub same : {d : Meant.Digits} {a b : Digits} → Shows d a → Shows d b → a ≡ b
+pub same : {d : Meant.Numeral} {a b : Digits} → Shows d a → Shows d b → a ≡ b
 same p q = ap₂ (λ (s : List ℕ) (u : ℕ). record { bytes = s; unused = u }) (p .bytes ∙ sym (q .bytes)) (p .unused ∙ sym (q .unused))
 
 -- what a caller needs to take the used bytes: there is always one

@@ -2,6 +2,7 @@
 use mathlib.Core.Path.{_≡_}
 use mathlib.Core.List.{List}
 use Prim.Native.Nat.{ℕ, _+_, _*_, _/_, _%_, _<_}
+use Prim.Native.Char.{code}
 use lib.ListN.{getD}
 use Rattle.meaning.specs.Digits as Meant
 use Rattle.digits.specs.declared.Digits.{Digits}
@@ -10,10 +11,10 @@ use Rattle.digits.specs.declared.Groups.{Groups}
 
 -- the digit rules of the two tables
 abbrev pub tensDigit : ℕ → ℕ
-tensDigit n = 48 + n / 10
+tensDigit n = code "0" + n / 10
 
 abbrev pub onesDigit : ℕ → ℕ
-onesDigit n = 48 + n % 10
+onesDigit n = code "0" + n % 10
 
 -- a table of 100 entries follows a rule
 pub record Follows (digit : ℕ → ℕ) (t : List ℕ) : Type 0 where
@@ -42,5 +43,5 @@ pub record GroupsOf (n : ℕ) (g : Groups) : Type 0 where
   pub is4 : g .d4 ≡ n / 10000000000000000
 
 -- the struct as the meaning's record
-abbrev pub asMeant : Digits → Meant.Digits
+abbrev pub asMeant : Digits → Meant.Numeral
 asMeant d = record { bytes = d .bytes; unused = d .unused }

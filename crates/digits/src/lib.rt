@@ -90,7 +90,7 @@ fn fill(tens: &[u8; 100], ones: &[u8; 100], n: u64) -> [u8; 20]
     requires { ⌜ Follows onesDigit (now ones) ⌝ }
     ensures { λ r. ⌜ r ≡ padded 20 n ⌝ }
 {
-    let mut bytes = [48u8; 20];
+    let mut bytes = [b'0'; 20];
     if n < 10000 {
         quad(&mut bytes, tens, ones, 16, n);
         return bytes;
@@ -167,7 +167,7 @@ fn negative(d: Digits) -> Digits
 {
     let at = d.unused - 1;
     let mut bytes = d.bytes;
-    bytes[at] = 45;
+    bytes[at] = b'-';
     Digits { bytes, unused: at }
 }
 

@@ -1,47 +1,53 @@
 -- What each program of a leaf gives, by the answers of the text below it.
 use mathlib.Core.Path.{_≡_, refl, sym, ap, _∙_}
 use mathlib.Core.List.{List}
+use mathlib.Core.Bool.{Bool, true, false}
 use mathlib.Core.Option.{Option, none, some}
-use Prim.Native.Nat.{ℕ, _+_, _-_, _≤_, _<_}
+use Prim.Native.Nat.{ℕ, _+_, _-_, _<_}
+use Prim.Native.Char.{code}
 use native.Mathlib.Omega.{arith}
-use lib.ListN.{length, take, drop}
+use lib.ListN.{length, take, drop, getD}
 use lib.Seq.{length-take-le}
+use Rattle.meaning.specs.Choice.{pick}
 use Rattle.meaning.specs.Demand.{lineLen, serves, line}
-use Rattle.meaning.specs.Prog.{run, ret}
-use Rattle.meaning.specs.Frames.{leaf, textLineP, numberP, bulkP}
-use Rattle.meaning.specs.StepLaws.{bytes-there, bytes-short}
+use Rattle.meaning.specs.Prog.{Prog, run, ret, done}
+use Rattle.meaning.specs.Kinds.{Profile, Number, Null, Marker}
+use Rattle.meaning.specs.Frames.{Step, leaf, textLineP, numberP, takesPlain, bulkP}
+use Rattle.meaning.specs.RunLaws.{bytes-there, bytes-short}
 use Rattle.text.specs.Moves.{ruledOf}
-use Rattle.text.specs.Lines.{foundOf}
-use Rattle.text.specs.Numbers.{numberLineAt}
-use Rattle.text.proofs.Lines.{line-size}
-use Rattle.text.proofs.Runs.{lineRun, line-runs, numberRun, number-runs}
+use Rattle.text.specs.Numbers.{lengthLine, numberLine, minusWord, ShortLine}
+use Rattle.text.specs.declared.Cursor.{Cursor}
 use Rattle.text.specs.declared.Ruled.{Ruled}
 use Rattle.text.specs.declared.Ruled.the-variants as Ruled
+use Rattle.text.specs.declared.number.LengthLine.{LengthLine}
+use Rattle.text.specs.declared.number.LengthLine.the-variants as LengthLine
 use Rattle.text.specs.declared.number.NumberLine.{NumberLine}
 use Rattle.text.specs.declared.number.NumberLine.the-variants as NumberLine
-use Rattle.leaf.specs.Leaves.{outLeaf, Reads}
+use Rattle.text.proofs.Lines.{line-size}
+use Rattle.text.proofs.Moves.{SkippedTo}
+use Rattle.text.proofs.Short.{short-length-line, short-number-line, short-minus-line}
+use Rattle.text.proofs.Runs.{lineRun, line-runs, lengthRun, length-runs, numberRun, number-runs}
+use Rattle.leaf.specs.Leaves.{ofNumber, outLeaf, Reads, ofLength, countedOut, Counts}
 use Rattle.leaf.specs.declared.Leaf.{Leaf}
 use Rattle.leaf.specs.declared.Leaf.the-variants.{Row, Refused, Unfinished}
+use Rattle.leaf.specs.declared.Counted.the-variants.{Count, Not}
+
+-- ---- what the text says is what the leaf gives
 
 abbrev pub ofRuled : ℕ → Ruled → Leaf
-ofRuled k (Ruled.Text from end c) = Row k from end 0 (c .at)
+ofRuled k (Ruled.Text from end c) = Row k from end 0 c
 ofRuled k Ruled.More = Unfinished
 
-abbrev pub ofNumber : NumberLine → Leaf
-ofNumber (NumberLine.Value v next) = Row 3 v 0 0 next
-ofNumber (NumberLine.Bad next) = Refused 3 next
-ofNumber NumberLine.More = Unfinished
-
 module _ (s : List ℕ) (at : ℕ) where
-  pub text-reads : (k : ℕ) (x : Ruled) → x ≡ ruledOf at (serves line (drop at s)) → Reads (textLineP k) s at (ofRuled k x)
+  pub text-reads : (k : ℕ) (x : Ruled) → x ≡ ruledOf at (serves line (drop at s)) → (π : Profile) → Reads (textLineP π k) s at (ofRuled k x)
   unfolding run serves
-  text-reads k x e = record {
+  text-reads k x e π = record {
     means = λ lim used.
         line-runs (λ l. ret (leaf k at (at + length l) 0)) s lim at used ∙ go lim used (lineLen (drop at s)) refl ∙ ap (λ (y : Ruled). outLeaf used (ofRuled k y)) (sym e);
   }
     where
       go : (lim used : ℕ) (o : Option ℕ) → lineLen (drop at s) ≡ o
-          → lineRun (λ l. ret (leaf k at (at + length l) 0)) s lim at used (foundOf at o) ≡ outLeaf used (ofRuled k (ruledOf at o))
+          → lineRun (λ l. ret (leaf k at (at + length l) 0)) s lim used (ruledOf at o) ≡ outLeaf used (ofRuled k (ruledOf at o))
       go lim used none q = refl
       go lim used (some n) q =
           let z = line-size (drop at s) n q in
@@ -50,21 +56,58 @@ module _ (s : List ℕ) (at : ℕ) where
           let end : at + (n - 2) ≡ at + n - 2 = omega (arith, z .0) in
           rw (e, l, end)
 
-  pub number-reads : (x : NumberLine) → x ≡ numberLineAt (drop at s) at (lineLen (drop at s)) → Reads numberP s at (ofNumber x)
-  number-reads x e = record { means = λ lim used. number-runs s lim at used ∙ ap (numberRun used) (sym e) ∙ alike used x }
+  pub number-reads : (x : NumberLine) → x ≡ numberLine s at → (π : Profile) → Reads (numberP π) s at (ofNumber x)
+  number-reads x e π = record { means = λ lim used. number-runs s lim at used π ∙ ap (numberRun used) (sym e) ∙ alike used x }
     where
       alike : (used : ℕ) (x : NumberLine) → numberRun used x ≡ outLeaf used (ofNumber x)
-      alike used (NumberLine.Value v next) = refl
-      alike used (NumberLine.Bad next) = refl
+      alike used (NumberLine.Value v c) = refl
+      alike used (NumberLine.Refused k n) = refl
       alike used NumberLine.More = refl
 
-  module _ (k n : ℕ) where
-    pub bulk-short : length s - at < n + 2 → Reads (bulkP k n) s at Unfinished
-    unfolding run
-    bulk-short h = record { means = λ lim used. bytes-short s lim at used (n + 2) (λ c. ret (leaf k at (at + n) 0)) h }
+  pub length-counts : (three : Bool) (k : ℕ) (x : LengthLine) → x ≡ lengthLine (takesPlain k) three s at → Counts three k s at (ofLength three k x)
+  length-counts three k x e = record {
+    means = λ π t f lim used.
+        length-runs π k f s lim at used ∙ ap (λ (b : Bool). lengthRun π k f s lim used (lengthLine (takesPlain k) b s at)) t ∙ ap (lengthRun π k f s lim used) (sym e) ∙ alike π t f lim used x;
+  }
+    where
+      gone : (b : Bool) (c : Cursor) (f : ℕ → Prog Step) (lim used : ℕ) → done (pick b (leaf Marker 0 0 k) (leaf Null 0 0 0)) (c .at) used
+          ≡ countedOut f s lim used (pick b (Not (Row Marker 0 0 k c)) (Not (Row Null 0 0 0 c)))
+      gone true c f lim used = refl
+      gone false c f lim used = refl
 
-    pub bulk-there : n + 2 ≤ length s - at → Reads (bulkP k n) s at (Row k at (at + n) 0 (at + n + 2))
+      alike : (π : Profile) → π .three ≡ three → (f : ℕ → Prog Step) (lim used : ℕ) (x : LengthLine) → lengthRun π k f s lim used x ≡ countedOut f s lim used (ofLength three k x)
+      alike π t f lim used (LengthLine.Count n c) = refl
+      alike π t f lim used (LengthLine.MinusOne c) = rw t (gone three c f lim used)
+      alike π t f lim used (LengthLine.Refused j n) = refl
+      alike π t f lim used LengthLine.More = refl
+
+  module _ (k n : ℕ) where
+    pub bulk-short : length s - at < n + 2 → (π : Profile) → Reads (bulkP π k n) s at Unfinished
     unfolding run
-    bulk-there h =
-        let e : at + (n + 2) ≡ at + n + 2 = omega arith in
-        record { means = λ lim used. bytes-there s lim at used (n + 2) (λ c. ret (leaf k at (at + n) 0)) h ∙ rw e }
+    bulk-short h π = record { means = λ lim used. bytes-short s lim at used (n + 2) (λ c. ret (leaf k at (at + n) 0)) h }
+
+    pub bulk-cut : (end : Cursor) → SkippedTo s at n end → length s - end .at < 2 → (π : Profile) → Reads (bulkP π k n) s at Unfinished
+    bulk-cut end a h =
+        let p : end .at ≡ at + n = ap (λ (c : Cursor). c .at) (a .to) in
+        bulk-short (omega arith)
+
+    pub bulk-there : (end next : Cursor) → SkippedTo s at n end → SkippedTo s (end .at) 2 next → (π : Profile) → Reads (bulkP π k n) s at (Row k at (end .at) 0 next)
+    unfolding run
+    bulk-there end next a b π =
+        let p : end .at ≡ at + n = ap (λ (c : Cursor). c .at) (a .to) in
+        let q : next .at ≡ at + (n + 2) = ap (λ (c : Cursor). c .at) (b .to) ∙ omega arith in
+        record { means = λ lim used. bytes-there s lim at used (n + 2) (λ c. ret (leaf k at (at + n) 0)) (omega (arith, a .there, b .there)) ∙ rw (p, q) }
+
+-- ---- a short line of digits says the same as the line of any length
+
+module _ {most : ℕ} (s : List ℕ) (at v : ℕ) (c : Cursor) (w : ShortLine most s at v (c .at)) where
+  pub short-number : (π : Profile) → Reads (numberP π) s at (Row Number v 0 0 c)
+  short-number = number-reads s at (NumberLine.Value v c) (short-number-line s at v c w)
+
+  pub short-count : (three : Bool) (k : ℕ) → Counts three k s at (Count v c)
+  short-count three k = length-counts s at three k (LengthLine.Count v c) (short-length-line s at v c w (takesPlain k) three)
+
+-- and behind a minus it is a Number
+module _ {most : ℕ} (s : List ℕ) (at v : ℕ) (c : Cursor) (w : ShortLine most s (at + 1) v (c .at)) (h : at < length s) (minus : getD s at 0 ≡ code "-") where
+  pub short-minus : (π : Profile) → Reads (numberP π) s at (Row Number (minusWord v) 0 0 c)
+  short-minus = number-reads s at (NumberLine.Value (minusWord v) c) (short-minus-line s at v c w h minus)

@@ -1,59 +1,145 @@
-// The frames without children that both protocols have: one line of text, a Number, a bulk text.
+// The frames without children that both protocols have, read through the cursor: one line of text, a Number, a bulk text; and the length that a bulk text or a frame with children begins with.
 use text::Cursor;
 use text::Ruled;
+use text::Skipped;
+use text::number::LengthLine;
 use text::number::NumberLine;
+ghost use mathlib.Core.Path.{_≡_};
 ghost use Prim.Native.Nat.{_≤_};
 ghost use lib.ListN.{length};
-ghost use Rattle.meaning.specs.Frames.{textLineP, numberP, bulkP};
-ghost use Rattle.leaf.specs.Leaves.{Reads};
+ghost use Rattle.meaning.specs.Kinds.{Profile};
+ghost use Rattle.meaning.specs.Frames.{textLineP, numberP, takesPlain, bulkP};
+ghost use Rattle.leaf.specs.Leaves.{Reads, Counts, ofNumber, ofLength};
+
+// The kinds that are named here, as a row's word 0 has them.
+const NUMBER: u64 = 3;
+
+const NULL: u64 = 6;
+
+const BLOB_ERROR: u64 = 8;
+
+const VERBATIM: u64 = 9;
+
+const CHUNKED_STRING: u64 = 11;
+
+const PUSH: u64 = 16;
+
+const ATTRIBUTE: u64 = 17;
+
+const MARKER: u64 = 19;
 
 pub enum Leaf {
-    // words 0 to 3 of its row, and the place after it
-    Row(u64, u64, u64, u64, usize),
-    // document 01's number, and the place that settled it
+    // words 0 to 3 of its row, and the cursor behind it
+    Row(u64, u64, u64, u64, Cursor),
+    // the number that it is refused with, and the place that settled it
     Refused(u64, usize),
     Unfinished,
 }
 
+// What a length's line comes to: a count and the cursor behind the line, or the leaf that stands instead.
+pub enum Counted {
+    Count(u64, Cursor),
+    Not(Leaf),
+}
+
 // A line's text, of any kind.
-pub fn text_line(s: &[u8], kind: u64, at: usize) -> Leaf
-    requires { ⌜ at ≤ length (now s) ⌝ }
-    ensures { λ r. ⌜ Reads (textLineP kind) (now (s .entry)) at r ⌝ }
+pub fn text_line(s: &[u8], kind: u64, c: Cursor) -> Leaf
+    requires { ⌜ c .at ≤ length (now s) ⌝ }
+    ensures { λ r. ⌜ ((π : Profile) → Reads (textLineP π kind) (now (s .entry)) (c .at) r) ⌝ }
 {
-    let c = Cursor { at };
     match c.line(s) {
-        Ruled::Text(from, end, after) => {
-            let next = after.at;
-            Leaf::Row(kind, from as u64, end as u64, 0, next)
-        }
+        Ruled::Text(from, end, next) => Leaf::Row(kind, from as u64, end as u64, 0, next),
         Ruled::More => Leaf::Unfinished,
     }
 }
 
-// A Number's line.
-pub fn number(s: &[u8], at: usize) -> Leaf
-    requires { ⌜ at ≤ length (now s) ⌝ }
-    ensures { λ r. ⌜ Reads numberP (now (s .entry)) at r ⌝ }
+// ---- Numbers
+
+fn as_leaf(n: NumberLine) -> Leaf
+    ensures { λ r. ⌜ r ≡ ofNumber n ⌝ }
 {
-    match text::number::number_line(s, at) {
-        NumberLine::Value(v, next) => Leaf::Row(3, v, 0, 0, next),
-        NumberLine::Bad(next) => Leaf::Refused(3, next),
+    match n {
+        NumberLine::Value(v, next) => Leaf::Row(NUMBER, v, 0, 0, next),
+        NumberLine::Refused(k, at) => Leaf::Refused(k, at),
         NumberLine::More => Leaf::Unfinished,
     }
 }
 
-// n bytes and two more. n may be as large as u64's largest: it is compared with what is left, and no sum is formed before.
-pub fn bulk(s: &[u8], kind: u64, at: usize, n: u64) -> Leaf
-    requires { ⌜ at ≤ length (now s) ⌝ }
-    ensures { λ r. ⌜ Reads (bulkP kind n) (now (s .entry)) at r ⌝ }
+// A Number's line.
+pub fn number(s: &[u8], c: Cursor) -> Leaf
+    requires { ⌜ c .at ≤ length (now s) ⌝ }
+    ensures { λ r. ⌜ ((π : Profile) → Reads (numberP π) (now (s .entry)) (c .at) r) ⌝ }
 {
-    let left = (s.len() - at) as u64;
-    if left < 2 {
-        return Leaf::Unfinished;
+    as_leaf(text::number::number_line(s, c))
+}
+
+// The same, for a caller that found no short line of digits there.
+pub fn number_long(s: &[u8], c: Cursor) -> Leaf
+    requires { ⌜ c .at ≤ length (now s) ⌝ }
+    ensures { λ r. ⌜ ((π : Profile) → Reads (numberP π) (now (s .entry)) (c .at) r) ⌝ }
+{
+    as_leaf(text::number::minus_line(s, c))
+}
+
+// ---- lengths
+
+// Whether a kind's length is plain.
+fn takes_plain(kind: u64) -> bool
+    ensures { λ r. ⌜ r ≡ takesPlain kind ⌝ }
+{
+    (kind == BLOB_ERROR)
+        | (kind == VERBATIM)
+        | (kind == CHUNKED_STRING)
+        | (kind == PUSH)
+        | (kind == ATTRIBUTE)
+}
+
+// -1 is a marker of the kind in RESP3 (`three`), and Null in RESP2.
+fn as_counted(three: bool, kind: u64, n: LengthLine) -> Counted
+    ensures { λ r. ⌜ r ≡ ofLength three kind n ⌝ }
+{
+    match n {
+        LengthLine::Count(x, next) => Counted::Count(x, next),
+        LengthLine::MinusOne(next) => {
+            if three {
+                Counted::Not(Leaf::Row(MARKER, 0, 0, kind, next))
+            } else {
+                Counted::Not(Leaf::Row(NULL, 0, 0, 0, next))
+            }
+        }
+        LengthLine::Refused(k, at) => Counted::Not(Leaf::Refused(k, at)),
+        LengthLine::More => Counted::Not(Leaf::Unfinished),
     }
-    if left - 2 < n {
-        return Leaf::Unfinished;
+}
+
+// The length of a sized kind, in RESP3 (`three`) or RESP2.
+pub fn length_head(s: &[u8], three: bool, kind: u64, c: Cursor) -> Counted
+    requires { ⌜ c .at ≤ length (now s) ⌝ }
+    ensures { λ r. ⌜ Counts three kind (now (s .entry)) (c .at) r ⌝ }
+{
+    let n = text::number::length_line(s, c, takes_plain(kind), three);
+    as_counted(three, kind, n)
+}
+
+// The same, for a caller that found no short line of digits there.
+pub fn length_long(s: &[u8], three: bool, kind: u64, c: Cursor) -> Counted
+    requires { ⌜ c .at ≤ length (now s) ⌝ }
+    ensures { λ r. ⌜ Counts three kind (now (s .entry)) (c .at) r ⌝ }
+{
+    let n = text::number::length_scanned(s, c, takes_plain(kind), three);
+    as_counted(three, kind, n)
+}
+
+// n bytes of text, and the two that follow it.
+pub fn bulk(s: &[u8], kind: u64, c: Cursor, n: u64) -> Leaf
+    requires { ⌜ c .at ≤ length (now s) ⌝ }
+    ensures { λ r. ⌜ ((π : Profile) → Reads (bulkP π kind n) (now (s .entry)) (c .at) r) ⌝ }
+{
+    match c.skip(s, n) {
+        Skipped::To(end) => match end.skip(s, 2) {
+            Skipped::To(next) => Leaf::Row(kind, c.at as u64, end.at as u64, 0, next),
+            Skipped::More => Leaf::Unfinished,
+        },
+        Skipped::More => Leaf::Unfinished,
     }
-    let end = at + n as usize;
-    Leaf::Row(kind, at as u64, end as u64, 0, end + 2)
 }

@@ -4,16 +4,17 @@ use mathlib.Core.List.{List, [], _∷_, _++_, map}
 use mathlib.Core.Bool.{Bool, true, false}
 use Prim.Native.Nat.{ℕ}
 use Prim.Native.String.{String}
-use Rattle.meaning.specs.Demand.{pick}
+use Rattle.meaning.specs.Choice.{pick}
 use Rattle.meaning.specs.Kinds.{resp3-stream, mayKey, mayCarry}
-use Rattle.meaning.specs.Decode.{Answer, frame, marker, refusal, waiting, decode}
+use Rattle.meaning.specs.Frames.{depthLimit}
+use Rattle.meaning.specs.Decode.{Outcome, frame, marker, refusal, waiting, decode}
 use Rattle.meaning.specs.Samples.{bytesOf}
 
 -- 0: accepted; else the refusal's number
-unfoldable pub verdict : Answer → ℕ
+unfoldable pub verdict : Outcome → ℕ
 verdict (frame n u ws) = 0
 verdict (marker n u ws) = 0
-verdict (refusal k) = k
+verdict (refusal k n) = k
 verdict waiting = 99
 
 -- a kind, a frame of it, and whether the crate took it as a key or member and under an attribute
@@ -50,7 +51,7 @@ cells =
 -- what the definitions say of a cell's frame as a map's key, a set's member, an attribute's key, and under an attribute
 abbrev pub said : Cell → List ℕ
 said c =
-    let v : List ℕ → ℕ = λ s. verdict (decode resp3-stream 9 s) in
+    let v : List ℕ → ℕ = λ s. verdict (decode resp3-stream depthLimit 9 s 0) in
     let s = bytesOf (c .text) in
     v (bytesOf "%1~" ++ s ++ bytesOf ":1~")
     ∷ v (bytesOf "^1~" ++ s)
@@ -75,6 +76,6 @@ unfolding cells
 columns-hold = refl
 
 -- a marker is refused with 6 where it stands as a key or member, and may carry an attribute
-pub marker-cell : (verdict (decode resp3-stream 9 (bytesOf "%1~$?~")) ∷ verdict (decode resp3-stream 9 (bytesOf "|0~$?~")) ∷ []) ≡ 6 ∷ 0 ∷ []
+pub marker-cell : (verdict (decode resp3-stream depthLimit 9 (bytesOf "%1~$?~") 0) ∷ verdict (decode resp3-stream depthLimit 9 (bytesOf "|0~$?~") 0) ∷ []) ≡ 6 ∷ 0 ∷ []
 unfolding verdict decode bytesOf
 marker-cell = refl

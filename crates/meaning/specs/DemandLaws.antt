@@ -9,7 +9,8 @@ use lib.ListN.{length, take, drop, take-append-drop, length-append}
 use lib.Seq.{take-take, length-take-le}
 use lib.Dec.{leb, eqb}
 use borrow.Author.Tests.{leb-true, le-leb, lt-leb}
-use Rattle.meaning.specs.Demand.{Demand, bytes, line, pick, up, lineLen, serves}
+use Rattle.meaning.specs.Choice.{pick}
+use Rattle.meaning.specs.Demand.{Demand, bytes, line, up, lineLen, serves}
 
 pub some-inj : {a b : ℕ} → _≡_ {A = Option ℕ} (some a) (some b) → a ≡ b
 some-inj e = cc

@@ -6,6 +6,7 @@ use mathlib.Core.Bool.{Bool, true, false}
 use Prim.Native.Nat.{ℕ, zero, suc, _+_, _-_, _*_, _/_, _%_, _^_, _<_, _≤_}
 use native.Mathlib.Nat.{add-zero, add-suc, suc-add, zero-add, zero-div, div-one, div-div-eq-div-mul, pow-suc, pow-succ', div-eq-of-lt, mod-lt, one-le-pow, div-lt-iff-lt-mul, mod-eq-of-lt, zero-mul, div-add-mod', eq-zero-or-pos, le-div-iff-mul-le, one-mul, add-mul, mul-assoc, add-assoc}
 use native.Mathlib.Numerals.{one-add}
+use Prim.Native.Char.{code}
 use native.Mathlib.Omega.{arith}
 use lib.Arith.{mod-mul, digits-div, digits-mod}
 use lib.IntN.{ℤ, pos, negsuc}
@@ -15,7 +16,7 @@ use lib.Signed.{mag}
 use lib.Dec.{eqb}
 use mathlib.Core.Option.{none, some}
 use borrow.Author.Tests.{eqb-true, ne-eqb, le-leb, lt-ltb}
-use Rattle.meaning.specs.Demand.{pick}
+use Rattle.meaning.specs.Choice.{pick}
 use Rattle.meaning.specs.Digits.{padded, zeros, digitsOf, negated, signedDigitsOf, shown}
 use Rattle.meaning.specs.Text.{digitsFrom, digits, isDigit, plainLength, count, signed, Num, plus, minus}
 
@@ -199,17 +200,17 @@ no-sign b c s n f e q =
     let apart : _≡_ {A = ℕ} 0 1 = cc in
     omega arith
 
-pub read-plain : (s : List ℕ) (n : ℕ) → digits s ≡ some n → n < 2 ^ 64 → plainLength s ≡ count n
+pub read-plain : (s : List ℕ) (n : ℕ) → digits s ≡ some n → n < 2 ^ 64 → plainLength s ≡ some (count n)
 unfolding plainLength digits
 read-plain [] n e h = cc
-read-plain (c ∷ s) n e h = rw (ne-eqb c 43 (no-sign 43 c s n refl e), e, lt-ltb n (2 ^ 64) h)
+read-plain (c ∷ s) n e h = rw (ne-eqb c (code "+") (no-sign (code "+") c s n refl e), e, lt-ltb n (2 ^ 64) h)
 
-pub read-plus : (s : List ℕ) (n : ℕ) → digits s ≡ some n → n < 2 ^ 63 → signed s ≡ plus n
+pub read-plus : (s : List ℕ) (n : ℕ) → digits s ≡ some n → n < 2 ^ 63 → signed s ≡ some (plus n)
 unfolding signed digits
 read-plus [] n e h = cc
-read-plus (c ∷ s) n e h = rw (ne-eqb c 43 (no-sign 43 c s n refl e), ne-eqb c 45 (no-sign 45 c s n refl e), e, lt-ltb n (2 ^ 63) h)
+read-plus (c ∷ s) n e h = rw (ne-eqb c (code "+") (no-sign (code "+") c s n refl e), ne-eqb c (code "-") (no-sign (code "-") c s n refl e), e, lt-ltb n (2 ^ 63) h)
 
-pub read-minus : (s : List ℕ) (n : ℕ) → digits s ≡ some (suc n) → n < 2 ^ 63 → signed (45 ∷ s) ≡ minus (suc n)
+pub read-minus : (s : List ℕ) (n : ℕ) → digits s ≡ some (suc n) → n < 2 ^ 63 → signed (code "-" ∷ s) ≡ some (minus (suc n))
 unfolding signed
 read-minus s n e h = rw (e, ne-eqb (suc n) 0 (λ q. omega arith), le-leb (suc n) (2 ^ 63) h)
 
@@ -221,7 +222,7 @@ abbrev pub numberOf : ℤ → Num
 numberOf (pos n) = plus n
 numberOf (negsuc n) = minus (suc n)
 
-pub read-signed : (z : ℤ) → mag z < 2 ^ 63 → signed (shown (signedDigitsOf z)) ≡ numberOf z
+pub read-signed : (z : ℤ) → mag z < 2 ^ 63 → signed (shown (signedDigitsOf z)) ≡ some (numberOf z)
 unfolding signedDigitsOf negated digitsOf
 read-signed (pos n) h = read-plus (shown (digitsOf n)) n (read-shown n (omega arith)) h
 read-signed (negsuc n) h =
@@ -230,5 +231,5 @@ read-signed (negsuc n) h =
     let first : u ≡ 1 + zeros (padded 19 (suc n)) = zeros-skip 1 18 (suc n) (omega arith) in
     let place : suc (u - 1) ≡ u = omega arith in
     let inside : u - 1 < length s = omega (arith, length-padded 20 (suc n), zeros-padded 19 (suc n)) in
-    ap signed (drop-set s (u - 1) 45 inside ∙ ap (λ (k : ℕ). 45 ∷ drop k s) place)
+    ap signed (drop-set s (u - 1) (code "-") inside ∙ ap (λ (k : ℕ). code "-" ∷ drop k s) place)
     ∙ read-minus (drop u s) n (read-shown (suc n) (omega arith)) h

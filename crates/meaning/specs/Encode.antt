@@ -1,91 +1,62 @@
 -- The RESP2 encoding of rows, its length, and which tables have one.
 use mathlib.Core.List.{List, [], _∷_, _++_}
 use mathlib.Core.Bool.{Bool, _&&_, _||_}
-use Prim.Native.Nat.{ℕ, zero, suc, _+_, _-_, _*_}
+use Prim.Native.Nat.{ℕ, _-_, _*_}
+use Prim.Native.Char.{code}
 use lib.ListN.{length, take, drop}
 use lib.Dec.{leb, ltb, eqb}
-use Rattle.meaning.specs.Demand.{pick}
+use Rattle.meaning.specs.Choice.{pick}
+use Rattle.meaning.specs.Demand.{CR, LF}
 use Rattle.meaning.specs.Text.{codes}
-use Rattle.meaning.specs.Rows.{Head, headOf, Forest, end, item, join, span, rowWidth, rowsIn}
+use Rattle.meaning.specs.Kinds.{SimpleString, SimpleError, Number, Null, BlobString, Array}
+use Rattle.meaning.specs.Rows.{Node, Forest, end, item, rowWidth, rowsIn}
+use Rattle.meaning.specs.Tree.{Reading, unfit, got, frameIn}
+use Rattle.meaning.specs.Frames.{depthLimit}
 use Rattle.meaning.specs.Digits.{digitsOf, signedDigitsOf, signedWord, shown}
 
--- ---- rows as a tree
+-- ---- which rows have an encoding
 
 -- Whether a row's words are what its kind allows, beside a source of n bytes: texts lie in it, and words without a meaning are 0.
-unfoldable pub rowFits : ℕ → Head → Bool
+unfoldable pub rowFits : ℕ → Node → Bool
 rowFits n h =
-    eqb (h .note) 0
-    && pick (eqb (h .kind) 1 || eqb (h .kind) 2 || eqb (h .kind) 7) (leb (h .w1) (h .w2) && leb (h .w2) n && eqb (h .w3) 0)
-    (pick (eqb (h .kind) 3) (eqb (h .w2) 0 && eqb (h .w3) 0)
-    (pick (eqb (h .kind) 6) (eqb (h .w1) 0 && eqb (h .w2) 0 && eqb (h .w3) 0)
-    (eqb (h .kind) 13 && eqb (h .w1) 0 && eqb (h .w2) 0)))
+    eqb (h .attribute) 0
+    && pick (eqb (h .kind) SimpleString || eqb (h .kind) SimpleError || eqb (h .kind) BlobString) (leb (h .w1) (h .w2) && leb (h .w2) n && eqb (h .w3) 0)
+    (pick (eqb (h .kind) Number) (eqb (h .w2) 0 && eqb (h .w3) 0)
+    (pick (eqb (h .kind) Null) (eqb (h .w1) 0 && eqb (h .w2) 0 && eqb (h .w3) 0)
+    (eqb (h .kind) Array && eqb (h .w1) 0 && eqb (h .w2) 0)))
 
 -- how many frames stand beneath a row
-abbrev pub childrenOf : Head → ℕ
-childrenOf h = pick (eqb (h .kind) 13) (h .w3) 0
-
--- frames read from words, and the words after them
-pub data Reading : Type 0 where
-  unfit : Reading
-  got : Forest → List ℕ → Reading
-
-abbrev pub andThen : Reading → (Forest → List ℕ → Reading) → Reading
-andThen unfit f = unfit
-andThen (got g r) f = f g r
-
--- n frames; p: one of them
-unfoldable pub framesIn : ℕ → (List ℕ → Reading) → List ℕ → Reading
-unfolding join
-framesIn zero p ws = got end ws
-framesIn (suc n) p ws = andThen (p ws) (λ f r. andThen (framesIn n p r) (λ g q. got (join f g) q))
-
--- a row with its children, whose rows its span counts
-abbrev pub itemIn : Head → ℕ → Reading → Reading
-itemIn h sp r = andThen r (λ f q. pick (eqb sp (span f + 1)) (got (item h f end) q) unfit)
-
--- a frame with so much depth left, beside a source of n bytes
-unfoldable pub frameIn : ℕ → ℕ → List ℕ → Reading
-unfolding framesIn rowFits
-frameIn n zero ws = unfit
-frameIn n (suc d) [] = unfit
-frameIn n (suc d) (k ∷ []) = unfit
-frameIn n (suc d) (k ∷ a ∷ []) = unfit
-frameIn n (suc d) (k ∷ a ∷ b ∷ []) = unfit
-frameIn n (suc d) (k ∷ a ∷ b ∷ c ∷ []) = unfit
-frameIn n (suc d) (k ∷ a ∷ b ∷ c ∷ sp ∷ []) = unfit
-frameIn n (suc d) (k ∷ a ∷ b ∷ c ∷ sp ∷ w ∷ ws) =
-    let h = headOf k a b c w in
-    let kids = framesIn (childrenOf h) (frameIn n d) ws in
-    pick (rowFits n h) (itemIn h sp kids) unfit
+abbrev pub childrenOf : Node → ℕ
+childrenOf h = pick (eqb (h .kind) Array) (h .w3) 0
 
 -- row 0 of a table, with the rows beneath it
 unfoldable pub topIn : ℕ → List ℕ → Reading
-unfolding frameIn
-topIn n t = frameIn n 32 (take (rowWidth * rowsIn (length t)) t)
+unfolding frameIn rowFits
+topIn n t = frameIn (rowFits n) childrenOf depthLimit (take (rowWidth * rowsIn (length t)) t)
 
 -- ---- bytes (RESP, "Simple strings", "Simple errors", "Integers", "Bulk strings", "Null bulk strings", "Arrays")
 
 abbrev pub crlf : List ℕ
-crlf = 13 ∷ 10 ∷ []
+crlf = CR ∷ LF ∷ []
 
 abbrev pub bulk : List ℕ → List ℕ
-bulk s = 36 ∷ (shown (digitsOf (length s)) ++ crlf ++ s ++ crlf)
+bulk s = code "$" ∷ (shown (digitsOf (length s)) ++ crlf ++ s ++ crlf)
 
 abbrev pub integerText : ℕ → List ℕ
 integerText w = shown (signedDigitsOf (signedWord w))
 
-abbrev pub textIn : List ℕ → Head → List ℕ
+abbrev pub textIn : List ℕ → Node → List ℕ
 textIn s h = take (h .w2 - h .w1) (drop (h .w1) s)
 
 -- a row's own bytes; with the flag integers are bulk strings
-unfoldable pub lineOf : List ℕ → Bool → Head → List ℕ
+unfoldable pub lineOf : List ℕ → Bool → Node → List ℕ
 unfolding digitsOf signedDigitsOf codes
 lineOf s flag h =
-    pick (eqb (h .kind) 1) (43 ∷ (textIn s h ++ crlf))
-    (pick (eqb (h .kind) 2) (45 ∷ (textIn s h ++ crlf))
-    (pick (eqb (h .kind) 3) (pick flag (bulk (integerText (h .w1))) (58 ∷ (integerText (h .w1) ++ crlf)))
-    (pick (eqb (h .kind) 7) (bulk (textIn s h))
-    (pick (eqb (h .kind) 13) (42 ∷ (shown (digitsOf (h .w3)) ++ crlf))
+    pick (eqb (h .kind) SimpleString) (code "+" ∷ (textIn s h ++ crlf))
+    (pick (eqb (h .kind) SimpleError) (code "-" ∷ (textIn s h ++ crlf))
+    (pick (eqb (h .kind) Number) (pick flag (bulk (integerText (h .w1))) (code ":" ∷ (integerText (h .w1) ++ crlf)))
+    (pick (eqb (h .kind) BlobString) (bulk (textIn s h))
+    (pick (eqb (h .kind) Array) (code "*" ∷ (shown (digitsOf (h .w3)) ++ crlf))
     (codes "$-1" ++ crlf)))))
 
 unfoldable pub encoded : List ℕ → Bool → Forest → List ℕ

@@ -7,16 +7,17 @@ use Prim.Native.Nat.{ℕ, zero, suc, _+_, _-_}
 use native.Mathlib.Omega.{arith}
 use lib.ListN.{length, take, getD}
 use lib.Dec.{ltb, eqb}
-use Rattle.meaning.specs.Demand.{pick}
+use Rattle.meaning.specs.Choice.{pick}
 use Rattle.meaning.specs.Prog.{Prog, ret, refuse, room, here, ask}
 use Rattle.meaning.specs.ProgLaws.{Says, says-pick, says-weighs, says-gives, Weighs, weighs-bind, weighs-more, weighs-pick, Gives, gives-bind, gives-else}
-use Rattle.meaning.specs.Text.{Num, bad, plus, minus, signed, Length, wrong, count, minusOne, double, boolean, format, parts, is}
+use Rattle.meaning.specs.Text.{Num, plus, minus, signed, Length, count, minusOne, double, boolean, format, parts}
 use borrow.Author.Tests.{ne-eqb}
 use Rattle.meaning.specs.Kinds.{Profile, resp2, kindOf, mayCarry}
 use Rattle.meaning.specs.KindsLaws.{kind2-elim}
-use Rattle.meaning.specs.Rows.{headOf, Forest, end, item, join, lastKind, mayHold, span}
+use Rattle.meaning.specs.Rows.{nodeOf, Forest, end, item, join, frameKind, mayHold, span}
 use Rattle.meaning.specs.RowsLaws.{span-join}
-use Rattle.meaning.specs.Frames.{Step, leaf, greeting, holder, textLineP, numberP, numbered, sized, absent, lengthFor, lengthP, bulkP, blankP, booleanP, judged, doubleP, verbatimP, chunkP, part, greets, helloOf, helloP, holderP, headP, repeat, heldP, roomsP, restP, bodyP, carriesP, annotatedP, attributeP, frameP, decodeP}
+use Rattle.meaning.specs.Hello.{HelloLine, helloOf}
+use Rattle.meaning.specs.Frames.{Step, leaf, greeting, holder, textLineP, numberP, numbered, sized, absent, lengthFor, lengthP, bulkP, blankP, booleanP, judged, doubleP, formatted, verbatimP, chunkP, greeted, helloP, holderP, headP, framesP, heldP, roomsP, restP, bodyP, carriesP, annotatedP, attributeP, frameP, decodeP}
 
 -- ---- heads
 
@@ -38,68 +39,60 @@ absent-unmarked π k = go (π .three)
 
 -- What a head says: it asks for no row, and keeps to its kind.
 module _ (π : Profile) (k : ℕ) where
-  abbrev Head : Prog Step → Type 0
-  Head p = Says (Unmarked π k) p
+  abbrev Keeps : Prog Step → Type 0
+  Keeps p = Says (Unmarked π k) p
 
-  head-pick : (b : Bool) (p q : Prog Step) → Head p → Head q → Head (pick b p q)
+  head-pick : (b : Bool) (p q : Prog Step) → Keeps p → Keeps q → Keeps (pick b p q)
   head-pick = says-pick (Unmarked π k)
 
-  numbered-head : (n : Num) → Head (numbered n)
-  numbered-head bad = tt
-  numbered-head (plus n) = λ t h e. omega arith
-  numbered-head (minus n) = λ t h e. omega arith
+  numbered-head : (n : Option Num) → Keeps (numbered n)
+  numbered-head none = tt
+  numbered-head (some (plus n)) = λ t h e. omega arith
+  numbered-head (some (minus n)) = λ t h e. omega arith
 
-  judged-head : (o : Option ℕ) → Head (judged o)
+  judged-head : (o : Option ℕ) → Keeps (judged o)
   judged-head none = tt
   judged-head (some n) = λ t h e. omega arith
 
-  sized-head : (j : ℕ) (f : ℕ → Prog Step) → ((n : ℕ) → Head (f n)) → (l : Length) → Head (sized π j f l)
-  sized-head j f g wrong = tt
-  sized-head j f g (count n) = g n
-  sized-head j f g minusOne = λ t h e. absent-unmarked π 0 t (λ z. omega arith) (kind-absent (π .three) e)
+  sized-head : (j : ℕ) (f : ℕ → Prog Step) → ((n : ℕ) → Keeps (f n)) → (l : Option Length) → Keeps (sized π j f l)
+  sized-head j f g none = tt
+  sized-head j f g (some (count n)) = g n
+  sized-head j f g (some minusOne) = λ t h e. absent-unmarked π 0 t (λ z. omega arith) (kind-absent (π .three) e)
     where
       kind-absent : (b : Bool) → stepKind (pick b (leaf 19 0 0 j) (leaf 6 0 0 0)) ≡ 19 → stepKind (pick b (leaf 19 0 0 0) (leaf 6 0 0 0)) ≡ 19
       kind-absent true e = e
       kind-absent false e = e
 
-  length-head : (j : ℕ) (f : ℕ → Prog Step) → ((n : ℕ) → Head (f n)) → Head (lengthP π j f)
+  length-head : (j : ℕ) (f : ℕ → Prog Step) → ((n : ℕ) → Keeps (f n)) → Keeps (lengthP π j f)
   length-head j f g = λ c. sized-head j f g (lengthFor π j (take (length c - 2) c))
 
-  verbatim-head : (n : ℕ) → Head (verbatimP n)
-  verbatim-head n =
-      λ f. head-pick (ltb n 4) (refuse 4) _ tt (λ i j c. head-pick (eqb (format (take 3 f)) 0) (refuse 4) _ tt (λ t h e. omega arith))
+  formatted-head : (i j : ℕ) (o : Option ℕ) → Keeps (formatted i j o)
+  formatted-head i j none = tt
+  formatted-head i j (some w) = λ t h e. omega arith
 
-  chunk-head : (n : ℕ) → Head (chunkP n)
-  chunk-head n = head-pick (eqb n 0) (ret (leaf 12 0 0 0)) (bulkP 11 n) (λ t h e. omega arith) (λ i j c t h e. omega arith)
+  verbatim-head : (n : ℕ) → Keeps (verbatimP π n)
+  verbatim-head n = λ f. head-pick (ltb n 4) (refuse 4) _ tt (λ i j c. formatted-head _ _ (format (take 3 f)))
 
-  greets-head : (ps : List (List ℕ)) (ok : Bool) (f : Forest) → Head (greets ps ok f)
-  greets-head ps ok f =
-      head-pick (is "ELLO" (part ps 0) && ok) _ (refuse 5)
-      (head-pick (is "2" (part ps 1)) (ret (greeting 2 f)) _ (λ t h e. omega arith)
-      (head-pick (is "3" (part ps 1)) (ret (greeting 3 f)) (refuse 5) (λ t h e. omega arith) tt))
-      tt
+  chunk-head : (n : ℕ) → Keeps (chunkP π n)
+  chunk-head n = head-pick (eqb n 0) (ret (leaf 12 0 0 0)) (bulkP π 11 n) (λ t h e. omega arith) (λ i j c t h e. omega arith)
 
-  hello-head : (at : ℕ) (ps : List (List ℕ)) → Head (helloOf at ps)
-  unfolding helloOf
-  hello-head at ps =
-      head-pick (eqb (length ps) 2) (greets ps true end) _ (greets-head ps true end)
-      (head-pick (eqb (length ps) 4) _ _ (greets-head ps _ _)
-      (head-pick (eqb (length ps) 5) _ _ (greets-head ps _ _)
-      (head-pick (eqb (length ps) 7) _ (refuse 5) (greets-head ps _ _) tt)))
+  greeted-head : (o : Option HelloLine) → Keeps (greeted o)
+  greeted-head none = tt
+  greeted-head (some h) = λ t x e. omega arith
 
-  pub head-says : Head (headP π k)
+  pub head-says : Keeps (headP π k)
   unfolding headP
   head-says =
-      head-pick (eqb k 1 || eqb k 2 || eqb k 10) (textLineP k) _ (λ i j c t h e. h e)
-      (head-pick (eqb k 3) numberP _ (λ c. numbered-head (signed (take (length c - 2) c)))
-      (head-pick (eqb k 7 || eqb k 8) (lengthP π k (bulkP k)) _ (length-head k (bulkP k) (λ n i j c t h e. h e))
-      (head-pick (eqb k 6 || eqb k 12) (blankP k) _ (λ c t h e. h e)
-      (head-pick (eqb k 5) booleanP _ (λ c. judged-head (boolean (take (length c - 2) c)))
-      (head-pick (eqb k 4) doubleP _ (λ i j c. head-pick (double (take (length c - 2) c)) _ (refuse 3) (λ t h e. omega arith) tt)
-      (head-pick (eqb k 9) (lengthP π 9 verbatimP) _ (length-head 9 verbatimP verbatim-head)
-      (head-pick (eqb k 11) (lengthP π 11 chunkP) _ (length-head 11 chunkP chunk-head)
+      head-pick (eqb k 1 || eqb k 2 || eqb k 10) (textLineP π k) _ (λ i j c t h e. h e)
+      (head-pick (eqb k 3) (numberP π) _ (λ c. numbered-head (signed (take (length c - 2) c)))
+      (head-pick (eqb k 7 || eqb k 8) (lengthP π k (bulkP π k)) _ (length-head k (bulkP π k) (λ n i j c t h e. h e))
+      (head-pick (eqb k 6 || eqb k 12) (blankP π k) _ (λ c t h e. h e)
+      (head-pick (eqb k 5) (booleanP π) _ (λ c. judged-head (boolean (take (length c - 2) c)))
+      (head-pick (eqb k 4) (doubleP π) _ (λ i j c. head-pick (double (take (length c - 2) c)) _ (refuse 3) (λ t h e. omega arith) tt)
+      (head-pick (eqb k 9) (lengthP π k (verbatimP π)) _ (length-head k (verbatimP π) verbatim-head)
+      (head-pick (eqb k 11) (lengthP π k (chunkP π)) _ (length-head k (chunkP π) chunk-head)
       (head-pick (eqb k 13 || eqb k 14 || eqb k 15 || eqb k 16 || eqb k 17) (holderP π k) _ (length-head k _ (λ n t h e. h e))
-      (head-pick (eqb k 18) helloP (refuse 1) (λ i j c. hello-head i (parts (take (length c - 2) c))) tt)))))))))
+      (head-pick (eqb k 18) (helloP π) (refuse 1) (λ i j c. greeted-head (helloOf i (parts (take (length c - 2) c)))) tt)))))))))
 
 -- ---- rows
 
@@ -110,28 +103,28 @@ Fills m p = Weighs m (λ f. span f + m) p
 fills-later : (p : Prog Forest) → Weighs 0 span p → (m : ℕ) → Fills m p
 fills-later p h m = let e : 0 + m ≡ m = omega arith in subst (λ (x : ℕ). Weighs x (λ f. span f + m) p) e (weighs-more span p 0 m h)
 
-repeat-fills : (n : ℕ) (p : Prog Forest) → Weighs 0 span p → Weighs 0 span (repeat n p)
-unfolding repeat span
-repeat-fills zero p h = refl
-repeat-fills (suc n) p h =
-    weighs-bind span span p _ 0 h (λ f. weighs-pick span (span f) (eqb (lastKind f) 19) (refuse 6) _ tt
-    (weighs-bind (λ g. span g + span f) span (repeat n p) (λ g. ret (join f g)) (span f)
-    (fills-later (repeat n p) (repeat-fills n p h) (span f))
+pub frames-fill : (n : ℕ) (p : Prog Forest) → Weighs 0 span p → Weighs 0 span (framesP n p)
+unfolding framesP span
+frames-fill zero p h = refl
+frames-fill (suc n) p h =
+    weighs-bind span span p _ 0 h (λ f. weighs-pick span (span f) (eqb (frameKind f) 19) (refuse 6) _ tt
+    (weighs-bind (λ g. span g + span f) span (framesP n p) (λ g. ret (join f g)) (span f)
+    (fills-later (framesP n p) (frames-fill n p h) (span f))
     (λ g. omega (arith, span-join f g))))
 
 held-fills : (p : Prog Forest) → Weighs 0 span p → (k n : ℕ) → Weighs 0 span (heldP p k n)
 unfolding heldP
-held-fills p h k n = weighs-bind span span (repeat n p) _ 0 (repeat-fills n p h) (λ f. weighs-pick span (span f) (mayHold k f) (ret f) (refuse 8) refl tt)
+held-fills p h k n = weighs-bind span span (framesP n p) _ 0 (frames-fill n p h) (λ f. weighs-pick span (span f) (mayHold k f) (ret f) (refuse 8) refl tt)
 
 rooms-fill : (n m : ℕ) (p : Prog Forest) → Weighs (m + n) span p → Weighs m span (roomsP n p)
 unfolding roomsP
 rooms-fill zero m p h = let e : m + 0 ≡ m = omega arith in subst (λ (x : ℕ). Weighs x span p) e h
 rooms-fill (suc n) m p h = let e : m + suc n ≡ m + 1 + n = omega arith in rooms-fill n (m + 1) p (subst (λ (x : ℕ). Weighs x span p) e h)
 
-rest-fills : (p : Prog Forest) → Weighs 0 span p → (w : ℕ) (st : Step) → Weighs 1 span (restP p w st)
+pub rest-fills : (p : Prog Forest) → Weighs 0 span p → (w : ℕ) (st : Step) → Weighs 1 span (restP p w st)
 unfolding restP span
 rest-fills p h w (leaf k a b c) = refl
-rest-fills p h w (greeting v f) = rooms-fill (span f) 1 (ret (item (headOf 18 0 0 v w) f end)) (omega arith)
+rest-fills p h w (greeting v f) = rooms-fill (span f) 1 (ret (item (nodeOf 18 0 0 v w) f end)) (omega arith)
 rest-fills p h w (holder k n) =
     weighs-bind (λ f. span f + 1) span (heldP p k n) _ 1 (fills-later (heldP p k n) (held-fills p h k n) 1) (λ f. omega arith)
 
@@ -146,7 +139,7 @@ annotated-fills π p h w a = λ c.
     weighs-pick span (span a + 1) (eqb k 17) (refuse 7) _ tt
     (weighs-bind (λ f. span f + span a) span (bodyP π p w k) (carriesP a) (span a + 1)
     (subst (λ (x : ℕ). Weighs x (λ f. span f + span a) (bodyP π p w k)) e (weighs-more span (bodyP π p w k) 1 (span a) (body-fills π p h w k)))
-    (λ f. weighs-pick span (span f + span a) (mayCarry (lastKind f)) (ret (join a f)) (refuse 9) (omega (arith, span-join a f)) tt))
+    (λ f. weighs-pick span (span f + span a) (mayCarry (frameKind f)) (ret (join a f)) (refuse 9) (omega (arith, span-join a f)) tt))
 
 attribute-fills : (π : Profile) (p : Prog Forest) → Weighs 0 span p → Weighs 1 span (attributeP π p)
 unfolding attributeP
@@ -162,19 +155,19 @@ frame-fills π (suc d) = λ c.
 
 pub decode-fills : (π : Profile) (d : ℕ) → Weighs 0 span (decodeP π d)
 unfolding decodeP
-decode-fills π d = weighs-bind span span (frameP π d) _ 0 (frame-fills π d) (λ f. weighs-pick span (span f) (π .complete && eqb (lastKind f) 19) (refuse 6) (ret f) tt refl)
+decode-fills π d = weighs-bind span span (frameP π d) _ 0 (frame-fills π d) (λ f. weighs-pick span (span f) (π .complete && eqb (frameKind f) 19) (refuse 6) (ret f) tt refl)
 
 -- ---- RESP2 has no marker
 
 abbrev NoMarker : Forest → Type 0
-NoMarker f = lastKind f ≡ 19 → ⊥
+NoMarker f = frameKind f ≡ 19 → ⊥
 
 rest-no-marker : (p : Prog Forest) (w : ℕ) (st : Step) → (stepKind st ≡ 19 → ⊥) → Gives NoMarker (restP p w st)
-unfolding restP lastKind roomsP
+unfolding restP frameKind roomsP
 rest-no-marker p w (leaf k a b c) h = h
 rest-no-marker p w (greeting v f) h = rooms (span f)
   where
-    rooms : (n : ℕ) → Gives NoMarker (roomsP n (ret (item (headOf 18 0 0 v w) f end)))
+    rooms : (n : ℕ) → Gives NoMarker (roomsP n (ret (item (nodeOf 18 0 0 v w) f end)))
     rooms zero = h
     rooms (suc n) = rooms n
 rest-no-marker p w (holder k n) h = gives-bind (λ f. Unit {0}) NoMarker (heldP p k n) _ (all (heldP p k n)) (λ f t. h)

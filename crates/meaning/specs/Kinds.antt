@@ -2,8 +2,9 @@
 use mathlib.Core.List.{List, [], _∷_}
 use mathlib.Core.Bool.{Bool, true, false, _&&_, _||_, not}
 use Prim.Native.Nat.{ℕ}
+use Prim.Native.Char.{code}
 use lib.Dec.{leb, eqb}
-use Rattle.meaning.specs.Demand.{pick}
+use Rattle.meaning.specs.Choice.{pick}
 
 -- Which decoder: RESP3 or RESP2; complete (a marker at the top is refused) or streaming.
 pub record Profile : Type 0 where
@@ -19,6 +20,74 @@ resp3 = record { three = true; complete = true }
 abbrev pub resp3-stream : Profile
 resp3-stream = record { three = true; complete = false }
 
+-- ---- kind codes (document 01, The row table)
+
+abbrev pub SimpleString : ℕ
+SimpleString = 1
+
+abbrev pub SimpleError : ℕ
+SimpleError = 2
+
+abbrev pub Number : ℕ
+Number = 3
+
+abbrev pub Double : ℕ
+Double = 4
+
+abbrev pub Boolean : ℕ
+Boolean = 5
+
+abbrev pub Null : ℕ
+Null = 6
+
+abbrev pub BlobString : ℕ
+BlobString = 7
+
+abbrev pub BlobError : ℕ
+BlobError = 8
+
+abbrev pub Verbatim : ℕ
+Verbatim = 9
+
+abbrev pub BigNumber : ℕ
+BigNumber = 10
+
+abbrev pub ChunkedString : ℕ
+ChunkedString = 11
+
+abbrev pub EndStream : ℕ
+EndStream = 12
+
+abbrev pub Array : ℕ
+Array = 13
+
+abbrev pub Map : ℕ
+Map = 14
+
+abbrev pub Set : ℕ
+Set = 15
+
+abbrev pub Push : ℕ
+Push = 16
+
+abbrev pub Attribute : ℕ
+Attribute = 17
+
+abbrev pub Hello : ℕ
+Hello = 18
+
+abbrev pub Marker : ℕ
+Marker = 19
+
+abbrev pub User : ℕ
+User = 20
+
+abbrev pub Password : ℕ
+Password = 21
+
+abbrev pub Name : ℕ
+Name = 22
+
 -- ---- type bytes (RESP, the table of data types; the streamed kinds from RESP3; H by document 01)
 
 -- pairs of byte and code; 0 where there is none
@@ -26,13 +95,37 @@ unfoldable pub lookup : List (ℕ × ℕ) → ℕ → ℕ
 lookup [] b = 0
 lookup (p ∷ ps) b = let rest = lookup ps b in pick (eqb (p .0) b) (p .1) rest
 
--- + SimpleString, - SimpleError, : Number, $ BlobString, * Array
 abbrev pub kinds2 : List (ℕ × ℕ)
-kinds2 = (43, 1) ∷ (45, 2) ∷ (58, 3) ∷ (36, 7) ∷ (42, 13) ∷ []
+kinds2 =
+    (code "+", SimpleString)
+    ∷ (code "-", SimpleError)
+    ∷ (code ":", Number)
+    ∷ (code "$", BlobString)
+    ∷ (code "*", Array)
+    ∷ []
 
--- and _ Null, # Boolean, `,` Double, ( BigNumber, ! BlobError, = Verbatim, % Map, | Attribute, ~ Set, > Push, ; ChunkedString, . EndStream, H Hello
+-- RESP3 has these besides
 abbrev pub kinds3 : List (ℕ × ℕ)
-kinds3 = (43, 1) ∷ (45, 2) ∷ (58, 3) ∷ (36, 7) ∷ (42, 13) ∷ (95, 6) ∷ (35, 5) ∷ (44, 4) ∷ (40, 10) ∷ (33, 8) ∷ (61, 9) ∷ (37, 14) ∷ (124, 17) ∷ (126, 15) ∷ (62, 16) ∷ (59, 11) ∷ (46, 12) ∷ (72, 18) ∷ []
+kinds3 =
+    (code "+", SimpleString)
+    ∷ (code "-", SimpleError)
+    ∷ (code ":", Number)
+    ∷ (code "$", BlobString)
+    ∷ (code "*", Array)
+    ∷ (code "_", Null)
+    ∷ (code "#", Boolean)
+    ∷ (code ",", Double)
+    ∷ (code "(", BigNumber)
+    ∷ (code "!", BlobError)
+    ∷ (code "=", Verbatim)
+    ∷ (code "%", Map)
+    ∷ (code "|", Attribute)
+    ∷ (code "~", Set)
+    ∷ (code ">", Push)
+    ∷ (code ";", ChunkedString)
+    ∷ (code ".", EndStream)
+    ∷ (code "H", Hello)
+    ∷ []
 
 -- the code of a type byte, or 0
 unfoldable pub kindOf : Profile → ℕ → ℕ
@@ -41,17 +134,17 @@ kindOf π b = let second = lookup kinds2 b in let third = lookup kinds3 b in pic
 
 -- ---- columns
 
--- May be a key or a set member: codes 1 to 12. (Document 01 has 1 to 10; a run of the crate settles 11 and 12.)
+-- May be a key or a set member: SimpleString to EndStream.
 abbrev pub mayKey : ℕ → Bool
-mayKey k = leb 1 k && leb k 12
+mayKey k = leb SimpleString k && leb k EndStream
 
--- May carry an attribute: all but 6, 11, 12, 17, 18 and 20 to 22.
+-- May carry an attribute: all but these, and Hello's fields.
 abbrev pub mayCarry : ℕ → Bool
-mayCarry k = leb 1 k && leb k 19 && not (eqb k 6 || eqb k 11 || eqb k 12 || eqb k 17 || eqb k 18)
+mayCarry k = leb SimpleString k && leb k Marker && not (eqb k Null || eqb k ChunkedString || eqb k EndStream || eqb k Attribute || eqb k Hello)
 
--- Has children: 13 to 17.
+-- Has children: Array, Map, Set, Push, Attribute.
 abbrev pub hasChildren : ℕ → Bool
-hasChildren k = leb 13 k && leb k 17
+hasChildren k = leb Array k && leb k Attribute
 
 abbrev pub yes : Bool → ℕ
 yes b = pick b 1 0

@@ -2,7 +2,7 @@
 use mathlib.Core.Bool.{Bool, true, false}
 use Prim.Native.Nat.{ℕ}
 use lib.Dec.{eqb}
-use Rattle.meaning.specs.Demand.{pick}
+use Rattle.meaning.specs.Choice.{pick}
 use Rattle.meaning.specs.Kinds.{resp2, kindOf, lookup}
 
 either : (P : ℕ → Type 0) (b : Bool) {x y : ℕ} → P x → P y → P (pick b x y)

@@ -1,12 +1,15 @@
 -- The definitions, in the order to read them, and then their laws.
+pub mod Choice
 pub mod Demand
 pub mod Prog
 pub mod Text
 pub mod Kinds
 pub mod Rows
+pub mod Hello
 pub mod Frames
 pub mod Decode
 pub mod Digits
+pub mod Tree
 pub mod Encode
 pub mod Samples
 pub mod Cells
@@ -15,6 +18,6 @@ pub mod ProgLaws
 pub mod KindsLaws
 pub mod RowsLaws
 pub mod FramesLaws
-pub mod StepLaws
+pub mod RunLaws
 pub mod DecodeLaws
 pub mod DigitLaws

@@ -6,11 +6,12 @@ use mathlib.Core.Option.{Option, none, some}
 use mathlib.Core.Logic.{_⊎_, inl, inr}
 use Prim.Native.Nat.{ℕ, zero, suc, _+_, _-_, _≤_, _<_}
 use native.Mathlib.Omega.{arith}
-use lib.ListN.{length, take, drop, length-drop}
+use lib.ListN.{length, take, drop, length-take, length-drop}
 use lib.Seq.{take-nil, take-append-le, drop-append-le, take-take}
 use lib.Dec.{ltb, leb}
 use borrow.Author.Tests.{ltb-true, leb-true, leb-false, lt-ltb}
-use Rattle.meaning.specs.Demand.{serves, pick}
+use Rattle.meaning.specs.Choice.{pick}
+use Rattle.meaning.specs.Demand.{serves}
 use Rattle.meaning.specs.DemandLaws.{serves-settles, serves-more, serves-cut}
 use Rattle.meaning.specs.Prog.{Prog, ret, refuse, room, here, ask, Out, done, refused, unfinished, roomed, served, run, bind}
 
@@ -143,7 +144,7 @@ module _ {A : Type 0} where
       go none e w ih = absurd (omega arith)
       go (some n) e w ih = rw (drop-take at m s h) (cut n e (split (at + n) m) w (ih n))
 
-  starts : (p : Prog A) (s : List ℕ) (lim at used : ℕ) → Settled (run p s lim at used) → at ≤ ends (run p s lim at used)
+  pub starts : (p : Prog A) (s : List ℕ) (lim at used : ℕ) → Settled (run p s lim at used) → at ≤ ends (run p s lim at used)
   unfolding run
   starts (ret a) s lim at used w = omega arith
   starts (refuse j) s lim at used w = omega arith
@@ -239,39 +240,37 @@ module _ {A : Type 0} where
       go (some n) e ih = wider s lim at (at + n) used used (omega arith) (omega arith) (run (k (take n (drop at s))) s lim (at + n) used)
           (ih n (omega (arith, length-drop at s, serves-settles d (drop at s) n e .there)))
 
--- ---- from the front of a buffer
+-- ---- from a place of a buffer, with no row used
 
-module _ {A : Type 0} (p : Prog A) (s : List ℕ) (lim : ℕ) where
+module _ {A : Type 0} (p : Prog A) (s : List ℕ) (lim at : ℕ) (h : at ≤ length s) where
   -- just the bytes that settled it, then any others
-  pub settled-later : (t : List ℕ) → Settled (run p s lim 0 0) → run p (take (ends (run p s lim 0 0)) s ++ t) lim 0 0 ≡ run p s lim 0 0
+  pub settled-later : (t : List ℕ) → Settled (run p s lim at 0) → run p (take (ends (run p s lim at 0)) s ++ t) lim at 0 ≡ run p s lim at 0
   settled-later t w =
-      let n = ends (run p s lim 0 0) in
-      let cut : run p (take n s) lim 0 0 ≡ run p s lim 0 0 = settled-cut p s lim 0 0 n (omega arith) w (omega arith) in
-      settled-more p (take n s) t lim 0 0 (omega arith) (subst Settled (sym cut) w) ∙ cut
+      let n = ends (run p s lim at 0) in
+      let from : at ≤ n = starts p s lim at 0 w in
+      let cut : run p (take n s) lim at 0 ≡ run p s lim at 0 = settled-cut p s lim at 0 n from w (omega arith) in
+      settled-more p (take n s) t lim at 0 (omega (arith, length-take n s)) (subst Settled (sym cut) w) ∙ cut
 
   -- and in a larger table, unless it was refused for want of a row
-  pub settled-larger : (lim′ : ℕ) (t : List ℕ) → Settled (run p s lim 0 0) → NotFull (run p s lim 0 0) → lim ≤ lim′
-      → run p (take (ends (run p s lim 0 0)) s ++ t) lim′ 0 0 ≡ run p s lim 0 0
-  settled-larger lim′ t w f h =
-      let n = ends (run p s lim 0 0) in
-      let more : run p (take n s ++ t) lim 0 0 ≡ run p s lim 0 0 = settled-later t w in
-      roomier p (take n s ++ t) lim lim′ 0 0 h (subst NotFull (sym more) f) ∙ more
+  pub settled-larger : (lim′ : ℕ) (t : List ℕ) → Settled (run p s lim at 0) → NotFull (run p s lim at 0) → lim ≤ lim′
+      → run p (take (ends (run p s lim at 0)) s ++ t) lim′ at 0 ≡ run p s lim at 0
+  settled-larger lim′ t w f l =
+      let n = ends (run p s lim at 0) in
+      let more : run p (take n s ++ t) lim at 0 ≡ run p s lim at 0 = settled-later t w in
+      roomier p (take n s ++ t) lim lim′ at 0 l (subst NotFull (sym more) f) ∙ more
 
-  pub unfinished-before : (m : ℕ) → m < ends (run p s lim 0 0) → run p (take m s) lim 0 0 ≡ unfinished
-  unfinished-before m h = unsettled-less p s lim 0 0 m (omega arith) h
-
-  pub within : Bounded s lim 0 0 (run p s lim 0 0)
-  within = bounded p s lim 0 0 (omega arith) (omega arith)
+  pub within : Bounded s lim at 0 (run p s lim at 0)
+  within = bounded p s lim at 0 h (omega arith)
 
   -- the whole buffer, then any other
-  pub settled-append : (t : List ℕ) → Settled (run p s lim 0 0) → run p (s ++ t) lim 0 0 ≡ run p s lim 0 0
-  settled-append t w = settled-more p s t lim 0 0 (omega arith) w
+  pub settled-append : (t : List ℕ) → Settled (run p s lim at 0) → run p (s ++ t) lim at 0 ≡ run p s lim at 0
+  settled-append t w = settled-more p s t lim at 0 h w
 
-  pub settled-append-larger : (lim′ : ℕ) (t : List ℕ) → Settled (run p s lim 0 0) → NotFull (run p s lim 0 0) → lim ≤ lim′
-      → run p (s ++ t) lim′ 0 0 ≡ run p s lim 0 0
-  settled-append-larger lim′ t w f h =
-      let more : run p (s ++ t) lim 0 0 ≡ run p s lim 0 0 = settled-append t w in
-      roomier p (s ++ t) lim lim′ 0 0 h (subst NotFull (sym more) f) ∙ more
+  pub settled-append-larger : (lim′ : ℕ) (t : List ℕ) → Settled (run p s lim at 0) → NotFull (run p s lim at 0) → lim ≤ lim′
+      → run p (s ++ t) lim′ at 0 ≡ run p s lim at 0
+  settled-append-larger lim′ t w f l =
+      let more : run p (s ++ t) lim at 0 ≡ run p s lim at 0 = settled-append t w in
+      roomier p (s ++ t) lim lim′ at 0 l (subst NotFull (sym more) f) ∙ more
 
 -- ---- what a program gives, and how many rows it asks for
 

@@ -8,9 +8,10 @@ use Prim.Native.String.{String}
 use Prim.Native.Char.{code}
 use lib.Dec.{eqb}
 use lib.ListN.{length}
-use Rattle.meaning.specs.Demand.{pick}
+use Rattle.meaning.specs.Choice.{pick}
 use Rattle.meaning.specs.Kinds.{Profile, resp2, resp3, resp3-stream}
-use Rattle.meaning.specs.Decode.{Answer, frame, marker, refusal, waiting, decode}
+use Rattle.meaning.specs.Frames.{depthLimit}
+use Rattle.meaning.specs.Decode.{Outcome, frame, marker, refusal, waiting, decode}
 use Rattle.meaning.specs.Encode.{Encoded, written, short, encode}
 
 -- the bytes of a text
@@ -36,12 +37,12 @@ pub data Call : Type 0 where
   encodes : List ℕ → List ℕ → Bool → ℕ → Call
 
 pub data Result : Type 0 where
-  decoded : Answer → Result
+  decoded : Outcome → Result
   encoded : Encoded → Result
 
 unfoldable pub got : Call → Result
 unfolding decode encode
-got (decodes π rows s) = decoded (decode π rows s)
+got (decodes π rows s) = decoded (decode π depthLimit rows s 0)
 got (encodes s t flag room) = encoded (encode s t flag room)
 
 pub record Sample : Type 0 where
@@ -49,16 +50,16 @@ pub record Sample : Type 0 where
   pub call : Call
   pub want : Result
 
-abbrev pub reads : String → Profile → ℕ → String → Answer → Sample
+abbrev pub reads : String → Profile → ℕ → String → Outcome → Sample
 reads name π rows text want = record { name = name; call = decodes π rows (bytesOf text); want = decoded want }
 
 abbrev pub writes : String → List ℕ → Bool → ℕ → Encoded → Sample
 writes name table flag room want = record { name = name; call = encodes [] table flag room; want = encoded want }
 
-abbrev pub nested : String → Profile → ℕ → ℕ → Answer → Sample
+abbrev pub nested : String → Profile → ℕ → ℕ → Outcome → Sample
 nested name π rows n want = record { name = name; call = decodes π rows (nest n); want = decoded want }
 
-abbrev pub leafFrame : ℕ → ℕ → ℕ → ℕ → ℕ → Answer
+abbrev pub leafFrame : ℕ → ℕ → ℕ → ℕ → ℕ → Outcome
 leafFrame n k a b c = frame n 1 (k ∷ a ∷ b ∷ c ∷ 1 ∷ 0 ∷ [])
 
 -- Array(7, Null), and i64's smallest
@@ -80,14 +81,14 @@ samples =
     ∷ reads "P3" resp2 1 "+OK\r" waiting
     ∷ reads "P4" resp2 1 "$-1~" (leafFrame 5 6 0 0 0)
     ∷ reads "P4" resp3-stream 1 "$-1~" (marker 5 1 (19 ∷ 0 ∷ 0 ∷ 7 ∷ 1 ∷ 0 ∷ []))
-    ∷ reads "P4" resp3 1 "$-1~" (refusal 6)
+    ∷ reads "P4" resp3 1 "$-1~" (refusal 6 5)
     ∷ reads "P5" resp2 1 "*-01~" (leafFrame 6 6 0 0 0)
     ∷ reads "P6" resp2 1 "$3~abcXY" (leafFrame 9 7 4 7 0)
     ∷ reads "P6" resp3 1 "$3~abcXY" (leafFrame 9 7 4 7 0)
-    ∷ reads "P7" resp3 1 "=3~txt:" (refusal 4)
+    ∷ reads "P7" resp3 1 "=3~txt:" (refusal 4 8)
     ∷ reads "P7, one byte less" resp3 1 "=3~txt" waiting
     ∷ reads "P8" resp3 1 "=7~mkd?abc~" (leafFrame 13 9 8 11 2)
-    ∷ reads "P9" resp3 3 "%1~*0~:1~" (refusal 8)
+    ∷ reads "P9" resp3 3 "%1~*0~:1~" (refusal 8 12)
     ∷ reads "P9, one byte less" resp3 3 "%1~*0~:1\r" waiting
     ∷ reads "P10" resp3 4 "|1~+k~:7~:9~"
     (frame 16 4 (17 ∷ 0 ∷ 0 ∷ 2 ∷ 3 ∷ 0 ∷ 1 ∷ 5 ∷ 6 ∷ 0 ∷ 1 ∷ 0 ∷ 3 ∷ 7 ∷ 0 ∷ 0 ∷ 1 ∷ 0 ∷ 3 ∷ 9 ∷ 0 ∷ 0 ∷ 1 ∷ 1 ∷ []))
@@ -97,20 +98,20 @@ samples =
     ∷ writes "P13, flag set" pairTable true 16 (written (bytesOf "*2~$1~7~$-1~"))
     ∷ writes "P13, i64's smallest" leastTable true 27 (written (bytesOf "$20~-9223372036854775808~"))
     ∷ writes "P13, no room" pairTable true 15 (short 16)
-    ∷ reads "-0 is no plain length" resp3 1 "!-0~" (refusal 2)
+    ∷ reads "-0 is no plain length" resp3 1 "!-0~" (refusal 2 5)
     ∷ reads "+5" resp2 1 ":+5~" (leafFrame 5 3 5 0 0)
     ∷ reads "no whole part" resp3 1 ",.5~" (leafFrame 5 4 1 3 0)
-    ∷ reads "an empty exponent" resp3 1 ",1e~" (refusal 3)
-    ∷ reads "? in RESP2" resp2 1 "$?~" (refusal 2)
-    ∷ reads "an attribute on Null" resp3 2 "|0~_~" (refusal 9)
+    ∷ reads "an empty exponent" resp3 1 ",1e~" (refusal 3 5)
+    ∷ reads "? in RESP2" resp2 1 "$?~" (refusal 2 4)
+    ∷ reads "an attribute on Null" resp3 2 "|0~_~" (refusal 9 7)
     ∷ nested "32 deep" resp2 33 31 (frame 128 32 (nestRows 32))
-    ∷ nested "33 deep" resp2 33 32 (refusal 10)
-    ∷ nested "33 deep" resp3 33 32 (refusal 10)
-    ∷ nested "33 deep, and no row for it" resp3 32 32 (refusal 10)
-    ∷ reads "no row" resp3 0 "" (refusal 11)
-    ∷ reads "an attribute after an attribute" resp3 2 "|0~|" (refusal 7)
+    ∷ nested "33 deep" resp2 33 32 (refusal 10 128)
+    ∷ nested "33 deep" resp3 33 32 (refusal 10 128)
+    ∷ nested "33 deep, and no row for it" resp3 32 32 (refusal 10 128)
+    ∷ reads "no row" resp3 0 "" (refusal 11 0)
+    ∷ reads "an attribute after an attribute" resp3 2 "|0~|" (refusal 7 5)
     ∷ reads "a lone CR" resp2 1 "+a\rb~" (leafFrame 6 1 1 4 0)
-    ∷ reads "room for Hello's fields" resp3 2 "HELLO 2 AUTH u p~" (refusal 11)
+    ∷ reads "room for Hello's fields" resp3 2 "HELLO 2 AUTH u p~" (refusal 11 18)
     ∷ reads "Hello with all fields" resp3 4 "HELLO 2 AUTH u p SETNAME n~"
     (frame 28 4 (18 ∷ 0 ∷ 0 ∷ 2 ∷ 4 ∷ 0 ∷ 20 ∷ 13 ∷ 14 ∷ 0 ∷ 1 ∷ 0 ∷ 21 ∷ 15 ∷ 16 ∷ 0 ∷ 1 ∷ 0 ∷ 22 ∷ 25 ∷ 26 ∷ 0 ∷ 1 ∷ 0 ∷ []))
     ∷ []

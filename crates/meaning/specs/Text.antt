@@ -7,7 +7,7 @@ use Prim.Native.String as Literal
 use Prim.Native.String.{String}
 use Prim.Native.Char.{code}
 use lib.Dec.{ltb, leb, eqb}
-use Rattle.meaning.specs.Demand.{pick}
+use Rattle.meaning.specs.Choice.{pick}
 
 -- ---- literals
 
@@ -29,12 +29,12 @@ is literal s = same s (codes literal)
 -- ---- digits (RESP: "one or more decimal digits (0..9) as the integer's unsigned, base-10 value")
 
 abbrev pub isDigit : ℕ → Bool
-isDigit c = leb 48 c && leb c 57
+isDigit c = leb (code "0") c && leb c (code "9")
 
 -- the value of digits that follow others worth acc; none where another byte stands among them
 unfoldable pub digitsFrom : ℕ → List ℕ → Option ℕ
 digitsFrom acc [] = some acc
-digitsFrom acc (c ∷ r) = let rest = digitsFrom (acc * 10 + (c - 48)) r in pick (isDigit c) rest none
+digitsFrom acc (c ∷ r) = let rest = digitsFrom (acc * 10 + (c - code "0")) r in pick (isDigit c) rest none
 
 -- one digit or more
 unfoldable pub digits : List ℕ → Option ℕ
@@ -45,55 +45,52 @@ digits (c ∷ r) = digitsFrom 0 (c ∷ r)
 -- ---- integers (RESP, "Integers": "an optional plus (+) or minus (-) as the sign", 64 bits)
 
 pub data Num : Type 0 where
-  bad : Num
   plus : ℕ → Num
   minus : ℕ → Num
 
-abbrev pub plusOf : Option ℕ → Num
-plusOf none = bad
-plusOf (some n) = pick (ltb n (2 ^ 63)) (plus n) bad
+abbrev pub plusOf : Option ℕ → Option Num
+plusOf none = none
+plusOf (some n) = pick (ltb n (2 ^ 63)) (some (plus n)) none
 
 -- minus 0 is plus 0
-abbrev pub minusOf : Option ℕ → Num
-minusOf none = bad
-minusOf (some n) = pick (eqb n 0) (plus 0) (pick (leb n (2 ^ 63)) (minus n) bad)
+abbrev pub minusOf : Option ℕ → Option Num
+minusOf none = none
+minusOf (some n) = pick (eqb n 0) (some (plus 0)) (pick (leb n (2 ^ 63)) (some (minus n)) none)
 
--- 43 is +, 45 is -
-unfoldable pub signed : List ℕ → Num
+unfoldable pub signed : List ℕ → Option Num
 unfolding digits
-signed [] = bad
-signed (c ∷ r) = pick (eqb c 43) (plusOf (digits r)) (pick (eqb c 45) (minusOf (digits r)) (plusOf (digits (c ∷ r))))
+signed [] = none
+signed (c ∷ r) = pick (eqb c (code "+")) (plusOf (digits r)) (pick (eqb c (code "-")) (minusOf (digits r)) (plusOf (digits (c ∷ r))))
 
 -- ---- lengths (RESP: "one or more decimal digits"; document 01 follows the crate in the signs it takes, and in `?`)
 
 pub data Length : Type 0 where
-  wrong : Length
   count : ℕ → Length
   minusOne : Length
 
-abbrev pub below64 : Option ℕ → Length
-below64 none = wrong
-below64 (some n) = pick (ltb n (2 ^ 64)) (count n) wrong
+abbrev pub below64 : Option ℕ → Option Length
+below64 none = none
+below64 (some n) = pick (ltb n (2 ^ 64)) (some (count n)) none
 
 -- a plain length: no minus, not even before 0
-unfoldable pub plainLength : List ℕ → Length
+unfoldable pub plainLength : List ℕ → Option Length
 unfolding digits
-plainLength [] = wrong
-plainLength (c ∷ r) = pick (eqb c 43) (below64 (digits r)) (below64 (digits (c ∷ r)))
+plainLength [] = none
+plainLength (c ∷ r) = pick (eqb c (code "+")) (below64 (digits r)) (below64 (digits (c ∷ r)))
 
-abbrev pub lengthOf : Num → Length
-lengthOf bad = wrong
-lengthOf (plus n) = count n
-lengthOf (minus n) = pick (eqb n 1) minusOne wrong
+abbrev pub lengthOf : Option Num → Option Length
+lengthOf none = none
+lengthOf (some (plus n)) = some (count n)
+lengthOf (some (minus n)) = pick (eqb n 1) (some minusOne) none
 
 -- a signed length; with the flag `?` is -1 too (RESP3, "Streamed strings", "Streamed aggregated data types")
-abbrev pub signedLength : Bool → List ℕ → Length
-signedLength three s = pick (three && is "?" s) minusOne (lengthOf (signed s))
+abbrev pub signedLength : Bool → List ℕ → Option Length
+signedLength three s = pick (three && is "?" s) (some minusOne) (lengthOf (signed s))
 
 -- ---- doubles (RESP, "Doubles"; document 01 follows Rust's f64 grammar, which also takes `infinity`, any letter case, `.5` and `5.`)
 
 abbrev pub lower : ℕ → ℕ
-lower c = pick (leb 65 c && leb c 90) (c + 32) c
+lower c = pick (leb (code "A") c && leb c (code "Z")) (c + 32) c
 
 -- that literal in any letter case
 abbrev pub isWord : String → List ℕ → Bool
@@ -101,7 +98,7 @@ isWord literal s = same (map lower s) (codes literal)
 
 unfoldable pub afterSign : List ℕ → List ℕ
 afterSign [] = []
-afterSign (c ∷ r) = pick (eqb c 43 || eqb c 45) r (c ∷ r)
+afterSign (c ∷ r) = pick (eqb c (code "+") || eqb c (code "-")) r (c ∷ r)
 
 unfoldable pub afterDigits : List ℕ → List ℕ
 afterDigits [] = []
@@ -119,17 +116,17 @@ allDigits s = someOf (digits s)
     someOf none = false
     someOf (some n) = true
 
--- nothing, or e or E (101, 69) with a sign or none and one digit or more
+-- nothing, or e or E with a sign or none and one digit or more
 unfoldable pub exponent : List ℕ → Bool
 unfolding allDigits afterSign
 exponent [] = true
-exponent (c ∷ r) = (eqb c 101 || eqb c 69) && allDigits (afterSign r)
+exponent (c ∷ r) = (eqb c (code "e") || eqb c (code "E")) && allDigits (afterSign r)
 
--- what follows the whole part, of which there was a digit or none: a dot (46) and a fraction, or no dot
+-- what follows the whole part, of which there was a digit or none: a dot and a fraction, or no dot
 unfoldable pub fraction : Bool → List ℕ → Bool
 unfolding exponent afterDigits startsDigit
 fraction some? [] = some?
-fraction some? (c ∷ r) = pick (eqb c 46) ((some? || startsDigit r) && exponent (afterDigits r)) (some? && exponent (c ∷ r))
+fraction some? (c ∷ r) = pick (eqb c (code ".")) ((some? || startsDigit r) && exponent (afterDigits r)) (some? && exponent (c ∷ r))
 
 unfoldable pub decimal : List ℕ → Bool
 unfolding fraction afterDigits startsDigit
@@ -143,19 +140,30 @@ unfoldable pub double : List ℕ → Bool
 unfolding unsignedDouble afterSign
 double s = unsignedDouble (afterSign s)
 
--- ---- booleans (RESP, "Booleans": `#t` and `#f`): 1, 0, or none
+-- ---- one of two words
+
+abbrev pub oneOf : String → ℕ → String → ℕ → List ℕ → Option ℕ
+oneOf first a second b s = pick (is first s) (some a) (pick (is second s) (some b) none)
+
+-- ---- booleans (RESP, "Booleans": `#t` and `#f`)
 
 unfoldable pub boolean : List ℕ → Option ℕ
 unfolding codes same
-boolean s = pick (is "t" s) (some 1) (pick (is "f" s) (some 0) none)
+boolean = oneOf "t" 1 "f" 0
 
--- ---- verbatim formats (RESP, "Verbatim strings": "exactly three (3) bytes"): 1 txt, 2 mkd, 0 for any other
+-- ---- verbatim formats (RESP, "Verbatim strings": "exactly three (3) bytes")
 
-unfoldable pub format : List ℕ → ℕ
+unfoldable pub format : List ℕ → Option ℕ
 unfolding codes same
-format s = pick (is "txt" s) 1 (pick (is "mkd" s) 2 0)
+format = oneOf "txt" 1 "mkd" 2
 
--- ---- the parts of a line, cut at each space (32)
+-- ---- HELLO's versions (RESP, "Client handshake")
+
+unfoldable pub version : List ℕ → Option ℕ
+unfolding codes same
+version = oneOf "2" 2 "3" 3
+
+-- ---- the parts of a line, cut at each space
 
 abbrev pub consPart : ℕ → List (List ℕ) → List (List ℕ)
 consPart c [] = (c ∷ []) ∷ []
@@ -163,4 +171,4 @@ consPart c (p ∷ ps) = (c ∷ p) ∷ ps
 
 unfoldable pub parts : List ℕ → List (List ℕ)
 parts [] = [] ∷ []
-parts (c ∷ r) = pick (eqb c 32) ([] ∷ parts r) (consPart c (parts r))
+parts (c ∷ r) = pick (eqb c (code " ")) ([] ∷ parts r) (consPart c (parts r))

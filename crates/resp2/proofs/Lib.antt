@@ -1,3 +1,4 @@
+-- What the proofs of several functions use.
 mod Heads
-mod Walks
+mod Steps
 mod Tops

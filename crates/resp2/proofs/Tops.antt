@@ -1,178 +1,97 @@
--- A walk without a table and then one over it, and the whole call.
+-- The top frame of RESP2: by its kind, and the whole call.
 use mathlib.Core.Path.{_≡_, refl, sym, ap, subst, _∙_}
-use mathlib.Core.List.{List, [], _∷_, _++_}
-use mathlib.Core.Bool.{_&&_}
-use Prim.Native.Nat.{ℕ, _+_, _≤_, _<_}
+use mathlib.Core.List.{List}
+use mathlib.Core.Bool.{false}
+use Prim.Native.Nat.{ℕ, suc, _+_, _-_, _≤_, _<_}
 use native.Mathlib.Omega.{arith}
 use lib.ListN.{length, getD}
 use lib.Dec.{eqb}
-use borrow.Author.Tests.{ne-eqb}
-use Rattle.meaning.specs.Demand.{pick}
-use Rattle.meaning.specs.Prog.{Prog, ret, refuse, bind, run, Out, done, refused, unfinished}
-use Rattle.meaning.specs.ProgLaws.{then, When, Within, Bounded, bounded, run-bind, gives-run}
-use Rattle.meaning.specs.Kinds.{resp2, kindOf}
-use Rattle.meaning.specs.Rows.{headOf, Forest, end, item, lastKind, rowsIn}
-use Rattle.meaning.specs.Frames.{Step, holder, holderP, restP, frameP, headP}
+use borrow.Author.Tests.{eq-eqb, ne-eqb}
+use Rattle.meaning.specs.Choice.{pick}
+use Rattle.meaning.specs.Prog.{Prog, bind, run, Out, refused, unfinished}
+use Rattle.meaning.specs.ProgLaws.{then, run-bind, gives-run}
+use Rattle.meaning.specs.Kinds.{resp2, kindOf, Array, Marker}
+use Rattle.meaning.specs.KindsLaws.{kind2-elim}
+use Rattle.meaning.specs.Rows.{Forest, frameKind, rowsIn}
+use Rattle.meaning.specs.Frames.{Step, holderP, headP, typeP, restP, frameP, decodeP}
 use Rattle.meaning.specs.FramesLaws.{frame-no-marker}
-use Rattle.meaning.specs.Decode.{answer, outcome, decode}
-use Rattle.meaning.specs.StepLaws.{decode-run, outcome-run, answer-outcome, frame-run, type-there, leaf-run}
-use Rattle.answers.specs.Answers.{answerOf, tableAfter, Decoded}
-use Rattle.answers.specs.declared.Answer.{Answer}
-use Rattle.answers.specs.declared.Answer.the-variants as Answer
-use Rattle.resp2.specs.Heads.{Heads, outHead, leafP}
-use Rattle.resp2.specs.Walks.{walkOf, Wrote, Walks, Placed, LeafRow}
-use Rattle.resp2.specs.Tops.{answerAs, arrayOut, topOut, rowsAfter, Filled, ArrayTop}
-use Rattle.resp2.specs.declared.head.Head.{Head}
-use Rattle.resp2.specs.declared.head.Head.the-variants as Head
-use Rattle.leaf.specs.Leaves.{Reads, outLeaf}
+use Rattle.meaning.specs.RunLaws.{type-there, type-short, frame-run, unmarked-run}
+use Rattle.leaf.specs.Leaves.{outLeaf, Reads, Counts}
 use Rattle.leaf.specs.declared.Leaf.{Leaf}
-use Rattle.leaf.specs.declared.Leaf.the-variants as Leaf
-use Rattle.resp2.proofs.Heads.{no-byte, leaf-kind, array-kind}
-use Rattle.resp2.specs.declared.walk.Walk.{Walk}
-use Rattle.resp2.specs.declared.walk.Walk.the-variants as Walk
-use Rattle.resp2.proofs.Walks.{done-run, refused-run, unfinished-run, leaf-row, frame-no-room, frame-unfinished}
+use Rattle.leaf.specs.declared.Counted.the-variants as Counted
+use Rattle.text.specs.declared.Cursor.{Cursor}
+use Rattle.walk.specs.Walks.{walkOf, Placed}
+use Rattle.walk.specs.Tops.{rowsAfter, Laid, Tried}
+use Rattle.walk.specs.declared.Walk.{Walk}
+use Rattle.walk.specs.declared.Walk.the-variants as Walk
+use Rattle.walk.proofs.Top.{laid, leaf-laid}
+use Rattle.resp2.specs.Heads.{leafP}
+use Rattle.resp2.specs.Tops.{arrayOut, topP}
+use Rattle.resp2.proofs.Steps.{frame-0, frame-no-room}
 
--- ---- an array
+-- what was not tried, and left the table alone
+pub untried : {o : Out Forest} {t : List ℕ} (at : ℕ) → Tried o t t (Walk.Refused 11 at)
+untried at = record { stands = λ h. absurd (h refl); kept = λ h. refl }
 
-none-left : (l t : List ℕ) → length l ≡ 0 → l ++ t ≡ t
-none-left [] t e = refl
-none-left (a ∷ l) t e = absurd (omega arith)
+-- ---- by its kind, behind its type byte
 
--- l: what the first walk left of the empty part
-module _ (n : ℕ) (s t₀ l : List ℕ) (lim at : ℕ) (e : lim ≡ rowsIn (length t₀)) (z : length l ≡ 0) where
-  abbrev Walked : List ℕ → List ℕ → Walk → Type 0
-  Walked t t₁ r = Walks (restP (frameP resp2 31) 0 (holder 13 n)) s lim at 1 0 t t₁ r
+module _ (d k : ℕ) (s : List ℕ) (lim at : ℕ) where
+  abbrev after : Step → ℕ → ℕ → Out Forest
+  after st n u = run (restP (frameP resp2 d) 0 st) s lim n u
 
-  pub kept-refused : (k a : ℕ) → Walked [] l (Walk.Refused k a) → Filled n s lim at t₀ (l ++ t₀) (Answer.Refused k)
-  kept-refused k a w =
-      let q : arrayOut n s lim at ≡ refused k a = refused-run (arrayOut n s lim at) k a (w .says) in
-      record { says = rw q; leaves = rw q (none-left l t₀ z) }
+  top-array : k ≡ Array → run (topP d k) s lim at 1 ≡ then (run (holderP resp2 Array) s lim at 1) after
+  top-array e = rw (eq-eqb k Array e) (run-bind (holderP resp2 Array) (restP (frameP resp2 d) 0) s lim at 1)
 
-  pub kept-unfinished : Walked [] l Walk.Unfinished → Filled n s lim at t₀ (l ++ t₀) Answer.Unfinished
-  kept-unfinished w =
-      let q : arrayOut n s lim at ≡ unfinished = unfinished-run (arrayOut n s lim at) (w .says) in
-      record { says = rw q; leaves = rw q (none-left l t₀ z) }
+  -- an array's count, and its frames
+  pub top-count : {n : ℕ} {c : Cursor} {t₀ t₁ : List ℕ} {r : Walk} → k ≡ Array → Counts false Array s at (Counted.Count n c) → Laid (arrayOut d n s lim (c .at)) t₀ t₁ r
+      → Laid (run (topP d k) s lim at 1) t₀ t₁ r
+  unfolding run
+  top-count {n} {c} e w l = laid (arrayOut d n s lim (c .at)) (top-array e ∙ ap (λ (o : Out Step). then o after) (w .means resp2 refl _ lim 1)) (l .says) (l .leaves)
 
-  -- where there is an array, the second walk writes it
-  pub filled : (a u : ℕ) → Walked [] l (Walk.To a u) → (t₁ : List ℕ) (w : Walk) (r : Answer) → Walked (l ++ t₀) t₁ w → r ≡ answerAs w → Filled n s lim at t₀ t₁ r
-  filled a u first t₁ w r second q =
-      let x = done-run (arrayOut n s lim at) a u (first .says) in
-      go (x .0) (x .1) (subst (λ (t : List ℕ). Walked t t₁ w) (none-left l t₀ z) second)
-    where
-      go : (f : Forest) → arrayOut n s lim at ≡ done f a u → Walked t₀ t₁ w → Filled n s lim at t₀ t₁ r
-      go f o v =
-          let wrote : Wrote 0 lim t₀ t₁ (done f a u) = rw o at (v .leaves) in
-          record { says = q ∙ ap answerAs (v .says); leaves = rw o (wrote (omega arith)) }
+  module _ {t₀ t₁ : List ℕ} {r : Walk} (l : Leaf) (counted : lim ≡ rowsIn (length t₀)) (one : 0 < lim) (p : Placed l 0 0 t₀ t₁ r) where
+    pub top-null : k ≡ Array → Counts false Array s at (Counted.Not l) → Laid (run (topP d k) s lim at 1) t₀ t₁ r
+    top-null e w = leaf-laid (frameP resp2 d) 0 s t₀ lim l (top-array e ∙ ap (λ (o : Out Step). then o after) (w .means resp2 refl _ lim 1)) counted one p
+
+    pub top-leaf : (k ≡ Array → ⊥) → Reads (leafP k) s at l → Laid (run (topP d k) s lim at 1) t₀ t₁ r
+    top-leaf e w =
+        leaf-laid (frameP resp2 d) 0 s t₀ lim l
+        (rw (ne-eqb k Array e) (run-bind (leafP k) (restP (frameP resp2 d) 0) s lim at 1) ∙ ap (λ (o : Out Step). then o after) (w .means lim 1)) counted one p
 
 -- ---- the whole call
 
-abbrev NoMarker : Forest → ℕ → ℕ → Type 0
-NoMarker f n u = lastKind f ≡ 19 → ⊥
+by-top : (b : ℕ) → headP resp2 (kindOf resp2 b) ≡ pick (eqb (kindOf resp2 b) Array) (holderP resp2 Array) (leafP (kindOf resp2 b))
+unfolding headP
+by-top b = kind2-elim (λ k. headP resp2 k ≡ pick (eqb k Array) (holderP resp2 Array) (leafP k)) refl refl refl refl refl refl b
 
-unmarked : (s : List ℕ) (lim : ℕ) → When NoMarker (run (frameP resp2 32) s lim 0 0)
-unmarked s lim = gives-run (λ f. lastKind f ≡ 19 → ⊥) (frameP resp2 32) (frame-no-marker 32) s lim 0 0
+module _ (d : ℕ) (s : List ℕ) (lim at : ℕ) where
+  -- RESP2 has no marker to refuse
+  call : run (decodeP resp2 d) s lim at 0 ≡ run (frameP resp2 d) s lim at 0
+  call = unmarked-run resp2 d s lim at 0 (gives-run (λ f. frameKind f ≡ Marker → ⊥) (frameP resp2 d) (frame-no-marker d) s lim at 0)
 
--- a frame's outcome is the call's: RESP2 has no marker to refuse
-frame-outcome : (s : List ℕ) (lim : ℕ) → outcome resp2 lim s ≡ run (frameP resp2 32) s lim 0 0
-unfolding run
-frame-outcome s lim = outcome-run resp2 lim s ∙ decode-run resp2 32 s lim 0 0 ∙ go (run (frameP resp2 32) s lim 0 0) (unmarked s lim)
-  where
-    go : (o : Out Forest) → When NoMarker o → then o (λ f n u. run (pick (resp2 .complete && eqb (lastKind f) 19) (refuse 6) (ret f)) s lim n u) ≡ o
-    go (done f n u) h = rw (ne-eqb (lastKind f) 19 h)
-    go (refused k n) h = refl
-    go unfinished h = refl
+  pub too-deep : (t : List ℕ) → d ≡ 0 → Laid (run (decodeP resp2 d) s lim at 0) t t (Walk.Refused 10 at)
+  too-deep t e = laid (refused 10 at) (call ∙ frame-0 s lim at 0 d e) refl refl
 
-says-alike : (o : Out Forest) → When NoMarker o → answerAs (walkOf o) ≡ answerOf (answer o)
-unfolding answer
-says-alike (done f n u) h = rw (ne-eqb (lastKind f) 19 h)
-says-alike (refused k n) h = refl
-says-alike unfinished h = refl
+  module _ (some : d ≡ 0 → ⊥) where
+    pub no-row : (t : List ℕ) → lim ≡ 0 → Laid (run (decodeP resp2 d) s lim at 0) t t (Walk.Refused 11 at)
+    no-row t e = laid (refused 11 at) (call ∙ frame-no-room s lim at 0 d some (omega arith)) refl refl
 
-leaves-alike : (t : List ℕ) (o : Out Forest) → When NoMarker o → rowsAfter t o ≡ tableAfter t (answer o)
-unfolding answer
-leaves-alike t (done f n u) h = rw (ne-eqb (lastKind f) 19 h)
-leaves-alike t (refused k n) h = refl
-leaves-alike t unfinished h = refl
+    module _ (one : 0 < lim) where
+      typed : run (decodeP resp2 d) s lim at 0 ≡ then (run (typeP resp2 (headP resp2)) s lim at 1) (λ st n u. run (restP (frameP resp2 (d - 1)) 0 st) s lim n u)
+      typed =
+          let e : d ≡ suc (d - 1) = omega arith in
+          call ∙ ap (λ (k : ℕ). run (frameP resp2 k) s lim at 0) e ∙ frame-run s lim at 0 (d - 1) one
 
--- What a frame's run says and leaves is what the call promises.
-module _ (s t₀ t₁ : List ℕ) (lim : ℕ) (e : lim ≡ rowsIn (length t₀)) (r : Answer) where
-  decoded : (o : Out Forest) → run (frameP resp2 32) s lim 0 0 ≡ o → r ≡ answerAs (walkOf o) → t₁ ≡ rowsAfter t₀ o → Decoded resp2 s t₀ t₁ r
-  decoded o q says leaves =
-      let h : When NoMarker o = subst (When NoMarker) q (unmarked s lim) in
-      let m : decode resp2 (rowsIn (length t₀)) s ≡ answer o =
-      ap (λ (n : ℕ). decode resp2 n s) (sym e) ∙ answer-outcome resp2 lim s ∙ ap answer (frame-outcome s lim ∙ q) in
-      record { says = says ∙ says-alike o h ∙ ap answerOf (sym m); leaves = leaves ∙ leaves-alike t₀ o h ∙ ap (tableAfter t₀) (sym m) }
+      pub no-byte : (t : List ℕ) → length s ≤ at → Laid (run (decodeP resp2 d) s lim at 0) t t Walk.Unfinished
+      no-byte t h =
+          laid unfinished (typed ∙ ap (λ (o : Out Step). then o (λ st n u. run (restP (frameP resp2 (d - 1)) 0 st) s lim n u)) (type-short s lim at 1 resp2 (headP resp2) h)) refl refl
 
--- ---- a top frame, kind by kind
-
-pub array-next : (s : List ℕ) (n m : ℕ) → 1 ≤ length s → Heads (holderP resp2 13) s 1 (Head.Array n m) → m ≤ length s
-array-next s n m h w =
-    let b : Within s 0 1 0 m 0 = subst (λ (o : Out Step). Bounded s 0 1 0 o) (w .means 0 0) (bounded (holderP resp2 13) s 0 1 0 h (omega arith)) in
-    b .to
-
--- an array's head, by its answer
-module _ (s t₀ : List ℕ) (lim : ℕ) where
-  by-head : (h : Head) → Heads (holderP resp2 13) s 1 h → topOut s lim ≡ then (outHead 1 h) (λ st n u. run (restP (frameP resp2 31) 0 st) s lim n u)
-  by-head h w =
-      run-bind (holderP resp2 13) (restP (frameP resp2 31) 0) s lim 1 1
-      ∙ ap (λ (o : Out Step). then o (λ st n u. run (restP (frameP resp2 31) 0 st) s lim n u)) (w .means lim 1)
-
-  array-top : (t₁ : List ℕ) (r : Answer) (o : Out Forest) → topOut s lim ≡ o → r ≡ answerAs (walkOf o) → t₁ ≡ rowsAfter t₀ o → ArrayTop s lim t₀ t₁ r
-  array-top t₁ r o q says leaves = record { says = says ∙ ap (λ (x : Out Forest). answerAs (walkOf x)) (sym q); leaves = leaves ∙ ap (rowsAfter t₀) (sym q) }
-
-  pub top-refused : (k a : ℕ) → Heads (holderP resp2 13) s 1 (Head.Refused k a) → ArrayTop s lim t₀ t₀ (Answer.Refused k)
-  top-refused k a w = array-top t₀ (Answer.Refused k) (refused k a) (by-head (Head.Refused k a) w) refl refl
-
-  pub top-unfinished : Heads (holderP resp2 13) s 1 Head.Unfinished → ArrayTop s lim t₀ t₀ Answer.Unfinished
-  top-unfinished w = array-top t₀ Answer.Unfinished unfinished (by-head Head.Unfinished w) refl refl
-
-  pub top-filled : (n m : ℕ) (t₁ : List ℕ) (r : Answer) → Heads (holderP resp2 13) s 1 (Head.Array n m) → Filled n s lim m t₀ t₁ r → ArrayTop s lim t₀ t₁ r
-  top-filled n m t₁ r w f = array-top t₁ r (arrayOut n s lim m) (by-head (Head.Array n m) w) (f .says) (f .leaves)
-
-  pub top-null : (k a b c m : ℕ) → lim ≡ rowsIn (length t₀) → 0 < lim → Heads (holderP resp2 13) s 1 (Head.Leaf k a b c m)
-      → (t₁ : List ℕ) (w : Walk) (r : Answer) → Placed (Leaf.Row k a b c m) 0 t₀ t₁ w → r ≡ answerAs w → ArrayTop s lim t₀ t₁ r
-  top-null k a b c m e one h t₁ w r p q =
-      array-top t₁ r (done (item (headOf k a b c 0) end end) m 1)
-      (by-head (Head.Leaf k a b c m) h ∙ leaf-run (frameP resp2 31) 0 s lim m 1 k a b c)
-      (q ∙ ap answerAs (p .says)) (p .leaves ∙ leaf-row t₀ 0 lim k a b c (omega arith) (omega arith) (omega arith))
-
-module _ (s t₀ : List ℕ) (lim : ℕ) (e : lim ≡ rowsIn (length t₀)) where
-  pub no-row : lim ≡ 0 → Decoded resp2 s t₀ t₀ (Answer.Refused 11)
-  no-row z = decoded s t₀ t₀ lim e (Answer.Refused 11) (refused 11 0) (frame-no-room s lim 0 0 32 (λ q. omega arith) (omega arith)) refl refl
-
-  module _ (one : lim ≡ 0 → ⊥) where
-    pub no-bytes : length s ≡ 0 → Decoded resp2 s t₀ t₀ Answer.Unfinished
-    no-bytes z =
-        decoded s t₀ t₀ lim e Answer.Unfinished unfinished
-        (frame-unfinished s lim 0 0 32 (λ q. omega arith) (omega arith) (no-byte s 0 (omega arith))) refl refl
-
-    -- a frame's run, by its type byte
-    top-run : (p : Prog Step) → 0 < length s → headP resp2 (kindOf resp2 (getD s 0 0)) ≡ p
-        → run (frameP resp2 32) s lim 0 0 ≡ run (bind p (restP (frameP resp2 31) 0)) s lim 1 1
-    top-run p h q =
-        frame-run s lim 0 0 31 (omega arith)
-        ∙ ap (λ (o : Out Step). then o (λ st n u. run (restP (frameP resp2 31) 0 st) s lim n u))
-        (type-there s lim 0 1 resp2 (headP resp2) h ∙ ap (λ (x : Prog Step). run x s lim 1 1) q)
-        ∙ sym (run-bind p (restP (frameP resp2 31) 0) s lim 1 1)
-
-    pub at-array : (t₁ : List ℕ) (r : Answer) → 0 < length s → kindOf resp2 (getD s 0 0) ≡ 13 → ArrayTop s lim t₀ t₁ r → Decoded resp2 s t₀ t₁ r
-    at-array t₁ r h k a = decoded s t₀ t₁ lim e r (topOut s lim) (top-run (holderP resp2 13) h (array-kind (getD s 0 0) k)) (a .says) (a .leaves)
-
-    pub at-leaf : (t₁ : List ℕ) (w : Walk) (r : Answer) (k : ℕ) → 0 < length s → k ≡ kindOf resp2 (getD s 0 0) → (k ≡ 13 → ⊥)
-        → LeafRow k s 1 0 t₀ t₁ w → r ≡ answerAs w → Decoded resp2 s t₀ t₁ r
-    at-leaf t₁ w r k h q other l a =
-        go (l .read) (l .reads) (l .placed)
-      where
-        runs : run (frameP resp2 32) s lim 0 0 ≡ then (run (leafP k) s lim 1 1) (λ st n u. run (restP (frameP resp2 31) 0 st) s lim n u)
-        runs = top-run (leafP k) h (leaf-kind (getD s 0 0) (λ z. other (q ∙ z)) ∙ ap leafP (sym q)) ∙ run-bind (leafP k) (restP (frameP resp2 31) 0) s lim 1 1
-
-        by : (x : Leaf) → Reads (leafP k) s 1 x → run (frameP resp2 32) s lim 0 0 ≡ then (outLeaf 1 x) (λ st n u. run (restP (frameP resp2 31) 0 st) s lim n u)
-        by x d = runs ∙ ap (λ (o : Out Step). then o (λ st n u. run (restP (frameP resp2 31) 0 st) s lim n u)) (d .means lim 1)
-
-        go : (x : Leaf) → Reads (leafP k) s 1 x → Placed x 0 t₀ t₁ w → Decoded resp2 s t₀ t₁ r
-        go (Leaf.Row j x y z m) d p =
-            decoded s t₀ t₁ lim e r (done (item (headOf j x y z 0) end end) m 1)
-            (by (Leaf.Row j x y z m) d ∙ leaf-run (frameP resp2 31) 0 s lim m 1 j x y z)
-            (a ∙ ap answerAs (p .says)) (p .leaves ∙ leaf-row t₀ 0 lim j x y z (omega arith) (omega arith) (omega arith))
-        go (Leaf.Refused j m) d p = decoded s t₀ t₁ lim e r (refused j m) (by (Leaf.Refused j m) d) (a ∙ ap answerAs (p .says)) (p .leaves)
-        go Leaf.Unfinished d p = decoded s t₀ t₁ lim e r unfinished (by Leaf.Unfinished d) (a ∙ ap answerAs (p .says)) (p .leaves)
+      pub a-frame : {k : ℕ} {t₀ t₁ : List ℕ} {w : Walk} → at < length s → k ≡ kindOf resp2 (getD s at 0) → Laid (run (topP (d - 1) k) s lim (at + 1) 1) t₀ t₁ w
+          → Laid (run (decodeP resp2 d) s lim at 0) t₀ t₁ w
+      a-frame {k} h e l = laid (run (topP (d - 1) k) s lim (at + 1) 1) (typed ∙ there) (l .says) (l .leaves)
+        where
+          there : then (run (typeP resp2 (headP resp2)) s lim at 1) (λ st n u. run (restP (frameP resp2 (d - 1)) 0 st) s lim n u) ≡ run (topP (d - 1) k) s lim (at + 1) 1
+          there =
+              ap (λ (o : Out Step). then o (λ st n u. run (restP (frameP resp2 (d - 1)) 0 st) s lim n u))
+              (type-there s lim at 1 resp2 (headP resp2) h
+              ∙ ap (λ (p : Prog Step). run p s lim (at + 1) 1) (by-top (getD s at 0) ∙ ap (λ (j : ℕ). pick (eqb j Array) (holderP resp2 Array) (leafP j)) (sym e)))
+              ∙ sym (run-bind (pick (eqb k Array) (holderP resp2 Array) (leafP k)) (restP (frameP resp2 (d - 1)) 0) s lim (at + 1) 1)

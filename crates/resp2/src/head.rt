@@ -1,122 +1,153 @@
 // A frame's first lines: behind its type byte, and with it.
+use leaf::Counted;
 use leaf::Leaf;
-use text::number::LengthLine;
+use text::Cursor;
+use text::Taken;
 use text::number::Short;
-ghost use mathlib.Core.Path.{_≡_};
 ghost use Prim.Native.Nat.{_≤_};
 ghost use lib.ListN.{length};
-ghost use Rattle.meaning.specs.Kinds.{resp2};
-ghost use Rattle.meaning.specs.Frames.{lengthP, bulkP, holderP, headP, typeP};
-ghost use Rattle.tables.specs.Tables.{IsKinds};
+ghost use Rattle.meaning.specs.Kinds.{resp2, BlobString, Array};
+ghost use Rattle.meaning.specs.Frames.{numberP, lengthP, bulkP, headP, typeP};
+ghost use Rattle.kinds.specs.Entries.{IsKinds};
+ghost use Rattle.text.specs.Numbers.{ShortAt};
 ghost use Rattle.leaf.specs.Leaves.{Reads};
-ghost use Rattle.resp2.specs.Heads.{Heads, leafP, numericP, shortP, headAs};
+ghost use Rattle.resp2.specs.Heads.{Heads, countedP, leafP, kindP, numericP, shortP};
 
 pub enum Head {
-    // words 0 to 3 of its row, and the place after it
-    Leaf(u64, u64, u64, u64, usize),
-    // how many frames follow, and the place after the count
-    Array(u64, usize),
-    // document 01's number, and the place that settled it
-    Refused(u64, usize),
-    Unfinished,
+    Leaf(Leaf),
+    // an array: how many frames follow, and the cursor behind the count
+    Holder(u64, Cursor),
 }
 
-// A bulk string, or Null.
-fn bulk_string(s: &[u8], at: usize) -> Leaf
-    requires { ⌜ at ≤ length (now s) ⌝ }
-    ensures { λ r. ⌜ Reads (lengthP resp2 7 (bulkP 7)) (now (s .entry)) at r ⌝ }
+// What follows a length worth n: a bulk string's text, or an array's frames.
+fn counted(s: &[u8], k: u8, n: u64, c: Cursor) -> Head
+    requires { ⌜ c .at ≤ length (now s) ⌝ }
+    ensures { λ r. ⌜ Heads (countedP k n) (now (s .entry)) (c .at) r ⌝ }
 {
-    match text::number::length_line(s, at, false, false) {
-        LengthLine::Count(n, next) => leaf::bulk(s, 7, next, n),
-        LengthLine::MinusOne(next) => Leaf::Row(6, 0, 0, 0, next),
-        LengthLine::Wrong(next) => Leaf::Refused(2, next),
-        LengthLine::More => Leaf::Unfinished,
+    if k == kinds::ARRAY {
+        return Head::Holder(n, c);
     }
+    Head::Leaf(leaf::bulk(s, kinds::BLOB_STRING as u64, c, n))
 }
 
-// A frame of kind k that is no array, behind its type byte.
-pub fn leaf_head(s: &[u8], k: u8, at: usize) -> Leaf
-    requires { ⌜ at ≤ length (now s) ⌝ }
-    ensures { λ r. ⌜ Reads (leafP k) (now (s .entry)) at r ⌝ }
+// A bulk string or an array, behind its type byte: a length that is no short line.
+fn long_head(s: &[u8], k: u8, c: Cursor) -> Head
+    requires { ⌜ c .at ≤ length (now s) ⌝ }
+    ensures { λ r. ⌜ Heads (lengthP resp2 k (countedP k)) (now (s .entry)) (c .at) r ⌝ }
 {
-    match k {
-        1 => leaf::text_line(s, 1, at),
-        2 => leaf::text_line(s, 2, at),
-        3 => leaf::number(s, at),
-        7 => bulk_string(s, at),
-        _ => Leaf::Refused(1, at),
+    match leaf::length_long(s, false, k as u64, c) {
+        Counted::Count(n, next) => counted(s, k, n, next),
+        Counted::Not(l) => Head::Leaf(l),
     }
 }
 
-fn as_head(l: Leaf) -> Head
-    ensures { λ r. ⌜ r ≡ headAs l ⌝ }
+// A Number that is no short line. Behind a minus 18 digits are read as in `short_ahead`.
+fn long_number(s: &[u8], c: Cursor) -> Leaf
+    requires { ⌜ c .at ≤ length (now s) ⌝ }
+    ensures { λ r. ⌜ Reads (numberP resp2) (now (s .entry)) (c .at) r ⌝ }
 {
-    match l {
-        Leaf::Row(k, a, b, c, next) => Head::Leaf(k, a, b, c, next),
-        Leaf::Refused(k, place) => Head::Refused(k, place),
-        Leaf::Unfinished => Head::Unfinished,
+    let at = c.at;
+    if s.len() - at < 21 {
+        return leaf::number_long(s, c);
+    }
+    if s[at] != b'-' {
+        return leaf::number_long(s, c);
+    }
+    match text::number::digits_line(s, Cursor { at: at + 1 }, 18) {
+        Short::Got(v, next) => {
+            Leaf::Row(kinds::NUMBER as u64, text::number::minus_word(v), 0, 0, next)
+        }
+        Short::No => leaf::number_long(s, c),
     }
 }
 
-// An array's count, or Null.
-pub fn array_head(s: &[u8], at: usize) -> Head
-    requires { ⌜ at ≤ length (now s) ⌝ }
-    ensures { λ r. ⌜ Heads (holderP resp2 13) (now (s .entry)) at r ⌝ }
+// A Number, a bulk string or an array, behind its type byte: no short line.
+fn numeric_head(s: &[u8], k: u8, c: Cursor) -> Head
+    requires { ⌜ c .at ≤ length (now s) ⌝ }
+    ensures { λ r. ⌜ Heads (numericP k) (now (s .entry)) (c .at) r ⌝ }
 {
-    match text::number::length_line(s, at, false, false) {
-        LengthLine::Count(n, next) => Head::Array(n, next),
-        LengthLine::MinusOne(next) => Head::Leaf(6, 0, 0, 0, next),
-        LengthLine::Wrong(next) => Head::Refused(2, next),
-        LengthLine::More => Head::Unfinished,
+    if k == kinds::NUMBER {
+        return Head::Leaf(long_number(s, c));
     }
-}
-
-// A Number, a bulk string or an array, behind its type byte: the line of any length.
-fn numeric_head(s: &[u8], k: u8, at: usize) -> Head
-    requires { ⌜ at ≤ length (now s) ⌝ }
-    ensures { λ r. ⌜ Heads (numericP k) (now (s .entry)) at r ⌝ }
-{
-    if k == 13 {
-        return array_head(s, at);
-    }
-    if k == 3 {
-        return as_head(leaf::number(s, at));
-    }
-    as_head(bulk_string(s, at))
+    long_head(s, k, c)
 }
 
 // The same, behind a short line that is worth v.
-fn short_head(s: &[u8], k: u8, v: u64, next: usize) -> Head
-    requires { ⌜ next ≤ length (now s) ⌝ }
-    ensures { λ r. ⌜ Heads (shortP k v) (now (s .entry)) next r ⌝ }
+fn short_head(s: &[u8], k: u8, v: u64, c: Cursor) -> Head
+    requires { ⌜ c .at ≤ length (now s) ⌝ }
+    ensures { λ r. ⌜ Heads (shortP k v) (now (s .entry)) (c .at) r ⌝ }
 {
-    if k == 13 {
-        return Head::Array(v, next);
+    if k == kinds::NUMBER {
+        return Head::Leaf(Leaf::Row(kinds::NUMBER as u64, v, 0, 0, c));
     }
-    if k == 3 {
-        return Head::Leaf(3, v, 0, 0, next);
+    counted(s, k, v, c)
+}
+
+// A short line. Where 20 bytes are there, the 18 turns are straight code; called from one place, so that it is compiled into the walk's loop.
+fn short_ahead(s: &[u8], c: Cursor) -> Short
+    requires { ⌜ c .at ≤ length (now s) ⌝ }
+    ensures { λ r. ⌜ ShortAt (now (s .entry)) (c .at) r ⌝ }
+{
+    let at = c.at;
+    if s.len() - at < 20 {
+        return text::number::short_digits(s, c);
     }
-    as_head(leaf::bulk(s, 7, next, v))
+    text::number::digits_line(s, c, 18)
+}
+
+// A frame of kind k, behind its type byte.
+fn kind_head(s: &[u8], k: u8, c: Cursor) -> Head
+    requires { ⌜ c .at ≤ length (now s) ⌝ }
+    ensures { λ r. ⌜ Heads (kindP k) (now (s .entry)) (c .at) r ⌝ }
+{
+    if k == 0 {
+        let at = c.at;
+        return Head::Leaf(Leaf::Refused(1, at));
+    }
+    if k < kinds::NUMBER {
+        return Head::Leaf(leaf::text_line(s, k as u64, c));
+    }
+    match short_ahead(s, c) {
+        Short::Got(v, next) => short_head(s, k, v, next),
+        Short::No => numeric_head(s, k, c),
+    }
 }
 
 // A frame's type byte and first lines. Called from one place, so that it is compiled into the walk's loop.
-pub fn head_at(s: &[u8], kinds: &[u8; 256], at: usize) -> Head
-    requires { ⌜ (at ≤ length (now s)) × IsKinds resp2 (now kinds) ⌝ }
-    ensures { λ r. ⌜ Heads (typeP resp2 (headP resp2)) (now (s .entry)) at r ⌝ }
+pub fn head_at(s: &[u8], kinds: &[u8; 256], c: Cursor) -> Head
+    requires { ⌜ (c .at ≤ length (now s)) × IsKinds resp2 (now kinds) ⌝ }
+    ensures { λ r. ⌜ Heads (typeP resp2 (headP resp2)) (now (s .entry)) (c .at) r ⌝ }
 {
-    if s.len() <= at {
-        return Head::Unfinished;
+    match c.byte(s) {
+        Taken::Byte(b, next) => kind_head(s, kinds::kind_at(kinds, b), next),
+        Taken::More => Head::Leaf(Leaf::Unfinished),
     }
-    let k = tables::kind_at(kinds, s[at]);
-    let next = at + 1;
-    if k == 0 {
-        return Head::Refused(1, next);
+}
+
+// A bulk string, or Null.
+fn bulk_string(s: &[u8], c: Cursor) -> Leaf
+    requires { ⌜ c .at ≤ length (now s) ⌝ }
+    ensures { λ r. ⌜ Reads (lengthP resp2 BlobString (bulkP resp2 BlobString)) (now (s .entry)) (c .at) r ⌝ }
+{
+    match leaf::length_head(s, false, kinds::BLOB_STRING as u64, c) {
+        Counted::Count(n, next) => leaf::bulk(s, kinds::BLOB_STRING as u64, next, n),
+        Counted::Not(l) => l,
     }
-    if k < 3 {
-        return as_head(leaf::text_line(s, k as u64, next));
-    }
-    match text::number::short_digits(s, next) {
-        Short::Got(v, after) => short_head(s, k, v, after),
-        Short::No => numeric_head(s, k, next),
+}
+
+// A frame of kind k that is no array, behind its type byte: what a call needs whose top frame is a leaf.
+pub fn leaf_head(s: &[u8], k: u8, c: Cursor) -> Leaf
+    requires { ⌜ c .at ≤ length (now s) ⌝ }
+    ensures { λ r. ⌜ Reads (leafP k) (now (s .entry)) (c .at) r ⌝ }
+{
+    match k {
+        kinds::SIMPLE_STRING => leaf::text_line(s, k as u64, c),
+        kinds::SIMPLE_ERROR => leaf::text_line(s, k as u64, c),
+        kinds::NUMBER => leaf::number(s, c),
+        kinds::BLOB_STRING => bulk_string(s, c),
+        _ => {
+            let at = c.at;
+            Leaf::Refused(1, at)
+        }
     }
 }

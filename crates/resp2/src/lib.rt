@@ -1,70 +1,167 @@
-// The RESP2 decoder: one frame from the front of a buffer, into rows that the caller lends.
+// The RESP2 decoder: one frame from a place of a buffer, into rows that the caller lends.
+mod frames;
 mod head;
-mod walk;
 
-use crate::head::Head;
-use crate::walk::Walk;
 use answers::Answer;
-use leaf::Leaf;
-ghost use mathlib.Core.Path.{_≡_};
-ghost use Rattle.meaning.specs.Kinds.{resp2};
+use leaf::Counted;
+use text::Cursor;
+use text::Taken;
+use walk::Walk;
+ghost use Prim.Native.Nat.{_+_, _≤_, _<_};
+ghost use lib.ListN.{length};
+ghost use Rattle.meaning.specs.Prog.{run};
+ghost use Rattle.meaning.specs.Kinds.{resp2, Array};
+ghost use Rattle.meaning.specs.Frames.{depthLimit, holder, restP, frameP};
+ghost use Rattle.kinds.specs.Entries.{IsKinds};
+ghost use Rattle.rows.specs.Put.{fewRows, savedWords};
 ghost use Rattle.answers.specs.Answers.{Decoded};
-ghost use Rattle.resp2.specs.Tops.{answerAs, Ready, Filled, ArrayTop};
+ghost use Rattle.walk.specs.Tops.{Ready, Laid, Tried};
+ghost use Rattle.resp2.specs.Tops.{arrayOut, topP, Small};
 
-fn as_answer(w: Walk) -> Answer
-    ensures { λ r. ⌜ r ≡ answerAs w ⌝ }
+// A walk without a table says whether the array is there; only then is t written.
+fn twice(
+    s: &[u8],
+    t: &mut [u64],
+    kinds: &[u8; 256],
+    lim: usize,
+    c: Cursor,
+    depth: usize,
+    n: u64,
+) -> Walk
+    requires { ⌜ Ready resp2 (now s) (now kinds) (now t) lim (c .at) ⌝ }
+    ensures { λ r. ⌜ Laid (arrayOut depth n (now (s .entry)) lim (c .at)) (now (t .entry)) (now (t .exit)) r ⌝ }
 {
-    match w {
-        Walk::To(n, u) => Answer::Frame(n, u),
-        Walk::Refused(k, _) => Answer::Refused(k),
-        Walk::Unfinished => Answer::Unfinished,
+    match frames::array(s, &mut t[..0], kinds, lim, c, 1, depth, n) {
+        Walk::To(_, _, _) => frames::array(s, t, kinds, lim, c, 1, depth, n),
+        Walk::Refused(k, p) => Walk::Refused(k, p),
+        Walk::Unfinished => Walk::Unfinished,
     }
 }
 
-// An array of n frames, from after its count. A walk without a table says whether it is there; only then is t written.
-fn fill(s: &[u8], t: &mut [u64], lim: usize, at: usize, n: u64) -> Answer
-    requires { ⌜ Ready (now s) (now t) lim at ⌝ }
-    ensures { λ r. ⌜ Filled n (now (s .entry)) lim at (now (t .entry)) (now (t .exit)) r ⌝ }
+// A few frames, in a row for each: one walk, over the first rows, which are put back unless the array is there.
+fn once(
+    s: &[u8],
+    t: &mut [u64],
+    kinds: &[u8; 256],
+    c: Cursor,
+    depth: usize,
+    n: u64,
+) -> Walk
+    requires { ⌜ Small n (now s) (now kinds) (now t) (c .at) ⌝ }
+    ensures { λ r. ⌜ Laid (arrayOut depth n (now (s .entry)) (n + 1) (c .at)) (now (t .entry)) (now (t .exit)) r ⌝ }
 {
-    let kinds = tables::all2();
-    match walk::array(s, &mut t[..0], &kinds, lim, at, 1, 31, n) {
-        Walk::To(_, _) => as_answer(walk::array(s, t, &kinds, lim, at, 1, 31, n)),
-        Walk::Refused(k, _) => Answer::Refused(k),
-        Walk::Unfinished => Answer::Unfinished,
+    let saved = rows::front(t);
+    match frames::array(s, &mut t[..rows::SAVED], kinds, n as usize + 1, c, 1, depth, n) {
+        Walk::To(p, u, k) => Walk::To(p, u, k),
+        Walk::Refused(k, p) => {
+            rows::put_back(t, &saved);
+            Walk::Refused(k, p)
+        }
+        Walk::Unfinished => {
+            rows::put_back(t, &saved);
+            Walk::Unfinished
+        }
     }
 }
 
-// A top frame that is an array, behind its type byte.
-fn array_top(s: &[u8], t: &mut [u64], lim: usize) -> Answer
-    requires { ⌜ Ready (now s) (now t) lim 1 ⌝ }
-    ensures { λ r. ⌜ ArrayTop (now (s .entry)) lim (now (t .entry)) (now (t .exit)) r ⌝ }
+// An array that looks like a command, with few frames and no array at their front, walked once. An 11 is no answer: t is as it was, and it is to be walked twice.
+fn few(
+    s: &[u8],
+    t: &mut [u64],
+    kinds: &[u8; 256],
+    lim: usize,
+    c: Cursor,
+    depth: usize,
+    n: u64,
+) -> Walk
+    requires { ⌜ Ready resp2 (now s) (now kinds) (now t) lim (c .at) ⌝ }
+    ensures { λ r. ⌜ Tried (arrayOut depth n (now (s .entry)) lim (c .at)) (now (t .entry)) (now (t .exit)) r ⌝ }
 {
-    match head::array_head(s, 1) {
-        Head::Leaf(k, a, b, c, next) => as_answer(walk::place_row(
-            t,
-            0,
-            Leaf::Row(k, a, b, c, next),
-        )),
-        Head::Array(n, next) => fill(s, t, lim, next, n),
-        Head::Refused(k, _) => Answer::Refused(k),
-        Head::Unfinished => Answer::Unfinished,
+    let at = c.at;
+    if n < rows::FEW as u64 {
+        if rows::FEW <= lim {
+            if at < s.len() {
+                if s[at] != b'*' {
+                    return once(s, t, kinds, c, depth, n);
+                }
+            }
+        }
+    }
+    Walk::Refused(11, at)
+}
+
+// An array of n frames, from behind its count.
+fn fill(
+    s: &[u8],
+    t: &mut [u64],
+    kinds: &[u8; 256],
+    lim: usize,
+    c: Cursor,
+    depth: usize,
+    n: u64,
+) -> Walk
+    requires { ⌜ Ready resp2 (now s) (now kinds) (now t) lim (c .at) ⌝ }
+    ensures { λ r. ⌜ Laid (arrayOut depth n (now (s .entry)) lim (c .at)) (now (t .entry)) (now (t .exit)) r ⌝ }
+{
+    match few(s, t, kinds, lim, c, depth, n) {
+        Walk::To(p, u, k) => Walk::To(p, u, k),
+        Walk::Refused(k, p) => {
+            if k == 11 {
+                return twice(s, t, kinds, lim, c, depth, n);
+            }
+            Walk::Refused(k, p)
+        }
+        Walk::Unfinished => Walk::Unfinished,
     }
 }
 
-// One frame from the front of s, its rows in t. An unfinished or refused decode leaves t as it was.
-pub fn decode(s: &[u8], t: &mut [u64]) -> Answer
-    ensures { λ r. ⌜ Decoded resp2 (now (s .entry)) (now (t .entry)) (now (t .exit)) r ⌝ }
+// A top frame of kind k, behind its type byte, with `depth` left for frames beneath it.
+fn top(
+    s: &[u8],
+    t: &mut [u64],
+    kinds: &[u8; 256],
+    lim: usize,
+    k: u8,
+    c: Cursor,
+    depth: usize,
+) -> Walk
+    requires { ⌜ Ready resp2 (now s) (now kinds) (now t) lim (c .at) ⌝ }
+    ensures { λ r. ⌜ Laid (run (topP depth k) (now (s .entry)) lim (c .at) 1) (now (t .entry)) (now (t .exit)) r ⌝ }
 {
+    if k == kinds::ARRAY {
+        return match leaf::length_head(s, false, kinds::ARRAY as u64, c) {
+            Counted::Count(n, next) => fill(s, t, kinds, lim, next, depth, n),
+            Counted::Not(l) => walk::leaf_row(t, 0, 0, l),
+        };
+    }
+    walk::leaf_row(t, 0, 0, head::leaf_head(s, k, c))
+}
+
+// One frame from a place of s on, its rows in t, with at most `depth` frames in one another. An unfinished or refused decode leaves t as it was.
+pub fn decode_at(s: &[u8], at: usize, t: &mut [u64], depth: usize) -> Answer
+    ensures { λ r. ⌜ Decoded resp2 depth (now (s .entry)) at (now (t .entry)) (now (t .exit)) r ⌝ }
+{
+    if depth == 0 {
+        return Answer::Refused(10);
+    }
     let lim = rows::rows_of(t.len());
     if lim == 0 {
         return Answer::Refused(11);
     }
-    if s.len() == 0 {
-        return Answer::Unfinished;
+    let kinds = kinds::all2();
+    let c = Cursor { at };
+    match c.byte(s) {
+        Taken::Byte(b, next) => {
+            let k = kinds::kind_at(&kinds, b);
+            walk::answer(at, top(s, t, &kinds, lim, k, next, depth - 1))
+        }
+        Taken::More => Answer::Unfinished,
     }
-    let k = tables::kind2(s[0]);
-    if k == 13 {
-        return array_top(s, t, lim);
-    }
-    as_answer(walk::leaf_row(s, t, k, 1, 0))
+}
+
+// One frame from the front of s, its rows in t.
+pub fn decode(s: &[u8], t: &mut [u64]) -> Answer
+    ensures { λ r. ⌜ Decoded resp2 depthLimit (now (s .entry)) 0 (now (t .entry)) (now (t .exit)) r ⌝ }
+{
+    decode_at(s, 0, t, walk::DEPTH)
 }

@@ -5,22 +5,22 @@ use Prim.Native.Nat.{ℕ, _+_, _*_}
 use lib.Dec.{leb, ltb}
 use lib.ListN.{length, getD}
 use lib.Seq.{sets}
-use Rattle.meaning.specs.Demand.{pick}
-use Rattle.meaning.specs.Rows.{Head, rowWidth}
+use Rattle.meaning.specs.Choice.{pick}
+use Rattle.meaning.specs.Rows.{Node, rowWidth, mostRows}
 use Rattle.rows.specs.declared.Row.{Row}
 
 -- a row's words in their order
 abbrev pub rowWords : Row → List ℕ
-rowWords r = r .kind ∷ r .w1 ∷ r .w2 ∷ r .w3 ∷ r .span ∷ r .note ∷ []
+rowWords r = r .kind ∷ r .w1 ∷ r .w2 ∷ r .w3 ∷ r .span ∷ r .attribute ∷ []
 
--- a frame's row: its head, and how many rows it takes
-abbrev pub rowOf : Head → ℕ → Row
-rowOf h n = record { kind = h .kind; w1 = h .w1; w2 = h .w2; w3 = h .w3; span = n; note = h .note }
+-- a frame's row: its node, and how many rows it takes
+abbrev pub rowOf : Node → ℕ → Row
+rowOf h n = record { kind = h .kind; w1 = h .w1; w2 = h .w2; w3 = h .w3; span = n; attribute = h .attribute }
 
 -- the table with a row written; as it was, where it has no such row
 unfoldable pub putRow : List ℕ → ℕ → Row → List ℕ
 putRow t row r =
-    pick (ltb row 4096 && leb (rowWidth * row + rowWidth) (length t)) (sets t (rowWidth * row) (rowWords r)) t
+    pick (ltb row mostRows && leb (rowWidth * row + rowWidth) (length t)) (sets t (rowWidth * row) (rowWords r)) t
 
 -- the words of a row
 abbrev pub rowAt : List ℕ → ℕ → Row
@@ -32,5 +32,12 @@ rowAt t row =
       w2 = getD t (i + 2) 0;
       w3 = getD t (i + 3) 0;
       span = getD t (i + 4) 0;
-      note = getD t (i + 5) 0;
+      attribute = getD t (i + 5) 0;
     }
+
+-- how many rows at the front can be saved, and how many words those are
+abbrev pub fewRows : ℕ
+fewRows = 6
+
+abbrev pub savedWords : ℕ
+savedWords = rowWidth * fewRows

@@ -9,8 +9,8 @@ use borrow.Author.Tests.{lt-ltb, le-ltb, le-leb, lt-leb}
 use lib.Dec.{leb, ltb}
 use lib.ListN.{length, getD, set, length-set}
 use lib.Seq.{sets, set-comm, length-sets, getD-set-same, getD-set-other}
-use Rattle.meaning.specs.Demand.{pick}
-use Rattle.meaning.specs.Rows.{Head, Forest, item, span, words, rowWidth, rowsIn}
+use Rattle.meaning.specs.Choice.{pick}
+use Rattle.meaning.specs.Rows.{Node, Forest, item, span, words, rowWidth, mostRows, rowsIn}
 use Rattle.rows.specs.declared.Row.{Row}
 use Rattle.rows.specs.Put.{putRow, rowWords, rowOf, rowAt}
 
@@ -56,22 +56,22 @@ getD-within (a ∷ vs) l i (suc k) h b =
 -- ---- rows
 
 -- a frame's rows: its own, and then those of the frames beneath it and after it
-pub words-item : (h : Head) (k r : Forest) → words (item h k r) ≡ rowWords (rowOf h (span k + 1)) ++ (words k ++ words r)
+pub words-item : (h : Node) (k r : Forest) → words (item h k r) ≡ rowWords (rowOf h (span k + 1)) ++ (words k ++ words r)
 unfolding words
 words-item h k r = refl
 
 module _ (t : List ℕ) (row : ℕ) (r : Row) where
-  pub put-there : row < 4096 → rowWidth * row + rowWidth ≤ length t → putRow t row r ≡ sets t (rowWidth * row) (rowWords r)
+  pub put-there : row < mostRows → rowWidth * row + rowWidth ≤ length t → putRow t row r ≡ sets t (rowWidth * row) (rowWords r)
   unfolding putRow
-  put-there h l = rw (lt-ltb row 4096 h, le-leb (rowWidth * row + rowWidth) (length t) l)
+  put-there h l = rw (lt-ltb row mostRows h, le-leb (rowWidth * row + rowWidth) (length t) l)
 
   pub put-short : length t < rowWidth * row + rowWidth → putRow t row r ≡ t
   unfolding putRow
   put-short h = rw (lt-leb (rowWidth * row + rowWidth) (length t) h, and-false)
 
-  pub put-far : 4096 ≤ row → putRow t row r ≡ t
+  pub put-far : mostRows ≤ row → putRow t row r ≡ t
   unfolding putRow
-  put-far h = rw (le-ltb row 4096 h)
+  put-far h = rw (le-ltb row mostRows h)
 
   -- a row that the table has, by its count of rows
   pub put-row : row < rowsIn (length t) → putRow t row r ≡ sets t (rowWidth * row) (rowWords r)
@@ -79,7 +79,7 @@ module _ (t : List ℕ) (row : ℕ) (r : Row) where
 
   pub length-put : length (putRow t row r) ≡ length t
   unfolding putRow
-  length-put = either (ltb row 4096 && leb (rowWidth * row + rowWidth) (length t))
+  length-put = either (ltb row mostRows && leb (rowWidth * row + rowWidth) (length t))
     where
       either : (b : Bool) → length (pick b (sets t (rowWidth * row) (rowWords r)) t) ≡ length t
       either true = length-sets t (rowWidth * row) (rowWords r)

@@ -100,7 +100,7 @@ fn refused(out: &mut [u8; 65536], used: usize, refusal: u64) -> usize
     let p = out::number(out, p, refusal);
     let p = out::say(out, p, b", ");
     let p = out::room(out, p);
-    let p = shown::reason(out, p, refusal);
+    let p = wording::reason(out, p, refusal);
     if refusal == 11 {
         return out::say(out, p, b", which is 4096\n");
     }

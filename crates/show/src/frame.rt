@@ -38,10 +38,10 @@ fn margin(out: &mut [u8; 65536], at: usize, offset: usize, depth: usize) -> usiz
     ensures { λ r. ⌜ r ≤ 65536 ⌝ }
 {
     let p = out::room(out, at);
-    let p = shown::spaces(out, p, short_of(offset));
+    let p = wording::spaces(out, p, short_of(offset));
     let p = out::number(out, p, offset as u64);
     let p = out::room(out, p);
-    shown::spaces(out, p, 2 * depth + 2)
+    wording::spaces(out, p, 2 * depth + 2)
 }
 
 fn least(a: usize, b: usize) -> usize
@@ -61,7 +61,7 @@ fn pieces(out: &mut [u8; 65536], at: usize, f: &[u8], from: usize, to: usize) ->
     while i < to {
         let next = i + 1 + least(to - i - 1, 1023);
         p = out::room(out, p);
-        p = shown::escapes(out, p, &f[i..next]);
+        p = wording::escapes(out, p, &f[i..next]);
         i = next;
     }
     p
@@ -98,7 +98,7 @@ fn value(out: &mut [u8; 65536], at: usize, f: &[u8], r: Row) -> usize
         3 => {
             let p = out::say(out, at, b" ");
             let p = out::room(out, p);
-            shown::signed(out, p, r.w1)
+            wording::signed(out, p, r.w1)
         }
         13..=17 => {
             let p = out::say(out, at, b" of ");
@@ -115,7 +115,7 @@ fn line(out: &mut [u8; 65536], at: usize, f: &[u8], offset: usize, depth: usize,
 {
     let p = margin(out, at, offset, depth);
     let p = out::room(out, p);
-    let p = shown::kind(out, p, r.kind);
+    let p = wording::kind(out, p, r.kind);
     let p = value(out, p, f, r);
     out::say(out, p, b"\n")
 }

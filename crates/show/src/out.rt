@@ -33,7 +33,7 @@ pub(crate) fn say(out: &mut [u8; 65536], at: usize, text: &[u8]) -> usize
     ensures { λ r. ⌜ r ≤ 65536 ⌝ }
 {
     let p = room(out, at);
-    shown::bytes(out, p, text)
+    wording::bytes(out, p, text)
 }
 
 pub(crate) fn number(out: &mut [u8; 65536], at: usize, n: u64) -> usize
@@ -41,7 +41,7 @@ pub(crate) fn number(out: &mut [u8; 65536], at: usize, n: u64) -> usize
     ensures { λ r. ⌜ r ≤ 65536 ⌝ }
 {
     let p = room(out, at);
-    shown::decimal(out, p, n)
+    wording::decimal(out, p, n)
 }
 
 // A number and what it counts, which an s follows unless it is one.

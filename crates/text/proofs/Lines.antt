@@ -12,7 +12,8 @@ use lib.Seq.{drop-cons, length-take-le, take-take}
 use lib.Dec.{eqb, leb}
 use borrow.Author.Tests.{eq-eqb, ne-eqb, leb-true, leb-false}
 use borrow.Author.Count.{below-more}
-use Rattle.meaning.specs.Demand.{lineLen, up, pick}
+use Rattle.meaning.specs.Choice.{pick}
+use Rattle.meaning.specs.Demand.{CR, LF, lineLen, up}
 use Rattle.text.specs.Lines.{foundOf, Clear}
 use Rattle.text.specs.declared.scan.Found.the-variants.{Next, More}
 
@@ -32,20 +33,27 @@ short (a ∷ b ∷ l) h = absurd (omega arith)
 pub no-line : (s : List ℕ) (i : ℕ) → length s - i < 2 → lineLen (drop i s) ≡ none
 no-line s i h = short (drop i s) (omega (arith, length-drop i s))
 
-pub line-here : (s : List ℕ) (i : ℕ) → i + 1 < length s → getD s i 0 ≡ 13 → getD s (i + 1) 0 ≡ 10 → lineLen (drop i s) ≡ some 2
+pub line-here : (s : List ℕ) (i : ℕ) → i + 1 < length s → getD s i 0 ≡ CR → getD s (i + 1) 0 ≡ LF → lineLen (drop i s) ≡ some 2
 unfolding lineLen
-line-here s i h p q = rw (two s i h, eq-eqb (getD s i 0) 13 p, eq-eqb (getD s (i + 1) 0) 10 q)
+line-here s i h p q = rw (two s i h, eq-eqb (getD s i 0) CR p, eq-eqb (getD s (i + 1) 0) LF q)
 
 found-up : (i : ℕ) (o : Option ℕ) → foundOf i (up o) ≡ foundOf (i + 1) o
 found-up i none = refl
 found-up i (some n) = let e : i + suc n ≡ i + 1 + n = omega arith in ap Next e
 
-line-later : (s : List ℕ) (i : ℕ) → i + 1 < length s → (eqb (getD s i 0) 13 && eqb (getD s (i + 1) 0) 10) ≡ false
+line-later : (s : List ℕ) (i : ℕ) → i + 1 < length s → (eqb (getD s i 0) CR && eqb (getD s (i + 1) 0) LF) ≡ false
     → foundOf i (lineLen (drop i s)) ≡ foundOf (i + 1) (lineLen (drop (i + 1) s))
 unfolding lineLen
 line-later s i h w =
     rw (two s i h, w)
     (found-up i (lineLen (getD s (i + 1) 0 ∷ drop (suc (i + 1)) s)) ∙ ap (λ (l : List ℕ). foundOf (i + 1) (lineLen l)) (sym (drop-cons s (i + 1) 0 h)))
+
+pub before : (j n : ℕ) → (j ≤ n) ⊎ (n < j)
+before j n = go (leb j n) refl
+  where
+    go : (b : Bool) → leb j n ≡ b → (j ≤ n) ⊎ (n < j)
+    go true e = inl (leb-true j n e)
+    go false e = inr (leb-false j n e)
 
 pub and-false : (b : Bool) → (b && false) ≡ false
 and-false true = refl
@@ -53,50 +61,44 @@ and-false false = refl
 
 -- ---- past bytes that are no CR, and past a CR that no LF follows
 
-pub no-cr : (s : List ℕ) (i : ℕ) → i < length s → (getD s i 0 ≡ 13 → ⊥) → foundOf i (lineLen (drop i s)) ≡ foundOf (i + 1) (lineLen (drop (i + 1) s))
+pub no-cr : (s : List ℕ) (i : ℕ) → i < length s → (getD s i 0 ≡ CR → ⊥) → foundOf i (lineLen (drop i s)) ≡ foundOf (i + 1) (lineLen (drop (i + 1) s))
 no-cr s i h f = go (length s - (i + 1)) refl
   where
     go : (left : ℕ) → length s - (i + 1) ≡ left → foundOf i (lineLen (drop i s)) ≡ foundOf (i + 1) (lineLen (drop (i + 1) s))
     go zero e = ap (foundOf i) (no-line s i (omega arith)) ∙ sym (ap (foundOf (i + 1)) (no-line s (i + 1) (omega arith)))
-    go (suc n) e = line-later s i (omega arith) (rw (ne-eqb (getD s i 0) 13 f))
+    go (suc n) e = line-later s i (omega arith) (rw (ne-eqb (getD s i 0) CR f))
 
-pub lone-cr : (s : List ℕ) (i : ℕ) → i + 1 < length s → (getD s (i + 1) 0 ≡ 10 → ⊥) → foundOf i (lineLen (drop i s)) ≡ foundOf (i + 1) (lineLen (drop (i + 1) s))
-lone-cr s i h f = line-later s i h (rw (ne-eqb (getD s (i + 1) 0) 10 f) (and-false (eqb (getD s i 0) 13)))
+pub lone-cr : (s : List ℕ) (i : ℕ) → i + 1 < length s → (getD s (i + 1) 0 ≡ LF → ⊥) → foundOf i (lineLen (drop i s)) ≡ foundOf (i + 1) (lineLen (drop (i + 1) s))
+lone-cr s i h f = line-later s i h (rw (ne-eqb (getD s (i + 1) 0) LF f) (and-false (eqb (getD s i 0) CR)))
 
-pub passed : (s : List ℕ) (i j : ℕ) → j ≤ length s → Clear s i j → foundOf i (lineLen (drop i s)) ≡ foundOf j (lineLen (drop j s))
+pub passed : (s : List ℕ) (i j : ℕ) → j ≤ length s → Clear CR s i j → foundOf i (lineLen (drop i s)) ≡ foundOf j (lineLen (drop j s))
 passed s i j h w = go (j - i) i (omega (arith, w .up)) (w .up) (w .not)
   where
-    go : (n i : ℕ) → i + n ≡ j → i ≤ j → ((k : ℕ) → i ≤ k → k < j → getD s k 0 ≡ 13 → ⊥) → foundOf i (lineLen (drop i s)) ≡ foundOf j (lineLen (drop j s))
+    go : (n i : ℕ) → i + n ≡ j → i ≤ j → ((k : ℕ) → i ≤ k → k < j → getD s k 0 ≡ CR → ⊥) → foundOf i (lineLen (drop i s)) ≡ foundOf j (lineLen (drop j s))
     go zero i e l f = let q : i ≡ j = omega arith in ap (λ (n : ℕ). foundOf n (lineLen (drop n s))) q
     go (suc n) i e l f =
         no-cr s i (omega arith) (f i (omega arith) (omega arith))
         ∙ go n (i + 1) (omega arith) (omega arith) (λ k a b. f k (omega arith) b)
 
--- ---- bytes that are no CR
+-- ---- bytes that are not b
 
-pub clear-none : (s : List ℕ) (i j : ℕ) → i ≡ j → Clear s i j
-clear-none s i j e = record { up = omega arith; not = λ k a b p. absurd (omega arith) }
+module _ {b : ℕ} (s : List ℕ) where
+  pub clear-none : (i j : ℕ) → i ≡ j → Clear b s i j
+  clear-none i j e = record { up = omega arith; not = λ k p q h. absurd (omega arith) }
 
-pub clear-more : (s : List ℕ) (i j m : ℕ) → Clear s i j → (getD s j 0 ≡ 13 → ⊥) → j + 1 ≡ m → Clear s i m
-clear-more s i j m w f e =
-    let u : i ≤ j = w .up in
-    record {
-      up = omega arith;
-      not = λ k a b. below-more (λ (k : ℕ). i ≤ k → getD s k 0 ≡ 13 → ⊥) j (λ k b a. w .not k a b) (λ a. f) k (omega arith) a;
-    }
+  pub clear-more : (i j m : ℕ) → Clear b s i j → (getD s j 0 ≡ b → ⊥) → j + 1 ≡ m → Clear b s i m
+  clear-more i j m w f e =
+      let u : i ≤ j = w .up in
+      record {
+        up = omega arith;
+        not = λ k p q. below-more (λ (k : ℕ). i ≤ k → getD s k 0 ≡ b → ⊥) j (λ k q p. w .not k p q) (λ p. f) k (omega arith) p;
+      }
 
-before : (j n : ℕ) → (j ≤ n) ⊎ (n < j)
-before j n = go (leb j n) refl
-  where
-    go : (b : Bool) → leb j n ≡ b → (j ≤ n) ⊎ (n < j)
-    go true e = inl (leb-true j n e)
-    go false e = inr (leb-false j n e)
-
-pub clear-join : (s : List ℕ) (i j k : ℕ) → Clear s i j → Clear s j k → Clear s i k
-clear-join s i j k v w =
-    let a : i ≤ j = v .up in
-    let b : j ≤ k = w .up in
-    record { up = omega arith; not = λ n p q. ⊎-elim (λ l. w .not n l q) (λ l. v .not n p l) (before j n) }
+  pub clear-join : (i j k : ℕ) → Clear b s i j → Clear b s j k → Clear b s i k
+  clear-join i j k v w =
+      let p : i ≤ j = v .up in
+      let q : j ≤ k = w .up in
+      record { up = omega arith; not = λ n p q. ⊎-elim (λ l. w .not n l q) (λ l. v .not n p l) (before j n) }
 
 -- ---- a line that was found
 
@@ -109,7 +111,7 @@ pub line-size : (l : List ℕ) (n : ℕ) → lineLen l ≡ some n → (2 ≤ n) 
 unfolding lineLen
 line-size [] n e = let z : _≡_ {A = ℕ} 0 1 = cc in absurd (omega arith)
 line-size (a ∷ []) n e = let z : _≡_ {A = ℕ} 0 1 = cc in absurd (omega arith)
-line-size (a ∷ b ∷ l) n e = go (eqb a 13 && eqb b 10) (line-size (b ∷ l)) e
+line-size (a ∷ b ∷ l) n e = go (eqb a CR && eqb b LF) (line-size (b ∷ l)) e
   where
     go : (t : Bool) → ((m : ℕ) → lineLen (b ∷ l) ≡ some m → (2 ≤ m) × (m ≤ length (b ∷ l)))
         → pick t (some 2) (up (lineLen (b ∷ l))) ≡ some n → (2 ≤ n) × (n ≤ length (a ∷ b ∷ l))
@@ -147,10 +149,3 @@ pub line-text : (l : List ℕ) (n : ℕ) → lineLen l ≡ some n → take (leng
 line-text l n e =
     let h : n ≤ length l = line-size l n e .1 in
     rw (length-take-le n l h) (take-take (n - 2) n l (omega arith))
-
--- what a line's end and text come to, from its end back or from its length
-pub line-answer : {A : Type 0} (s : List ℕ) (at m n : ℕ) → LineTo s at m n → (f : ℕ → List ℕ → A) → f m (take (m - 2 - at) (drop at s)) ≡ f (at + n) (take (n - 2) (drop at s))
-line-answer s at m n w f =
-    let t : at + n ≡ m = w .to in
-    let e : m - 2 - at ≡ n - 2 = omega arith in
-    rw (t, e)

@@ -1,16 +1,20 @@
 -- The meaning's lengths and Numbers as the code's answers.
-use mathlib.Core.Path.{_≡_}
+use mathlib.Core.Path.{_≡_, refl, ap, _∙_}
 use mathlib.Core.List.{List}
 use mathlib.Core.Bool.{Bool}
 use mathlib.Core.Option.{Option, none, some}
-use Prim.Native.Nat.{ℕ, _+_, _-_, _^_, _<_}
+use Prim.Native.Nat.{ℕ, _+_, _-_, _^_, _<_, _≤_}
+use Prim.Native.Char.{code}
+use native.Mathlib.Omega.{arith}
 use lib.ListN.{take, drop}
 use lib.Dec.{eqb, leb, ltb}
-use Rattle.meaning.specs.Demand.{pick, lineLen}
-use Rattle.meaning.specs.Text.{digits, Num, bad, plus, minus, signed, wrong, count, minusOne, plainLength, signedLength}
+use Rattle.meaning.specs.Choice.{pick}
+use Rattle.meaning.specs.Demand.{lineLen}
+use Rattle.meaning.specs.Text.{digits, Num, plus, minus, signed, count, minusOne, plainLength, signedLength}
 use Rattle.meaning.specs.Text as Text
-use Rattle.text.specs.declared.number.Digits.{Digits}
-use Rattle.text.specs.declared.number.Digits.the-variants as Digits
+use Rattle.text.specs.declared.Cursor.{Cursor}
+use Rattle.text.specs.declared.number.Worth.{Worth}
+use Rattle.text.specs.declared.number.Worth.the-variants as Worth
 use Rattle.text.specs.declared.number.Signed.{Signed}
 use Rattle.text.specs.declared.number.Signed.the-variants as Signed
 use Rattle.text.specs.declared.number.Length.{Length}
@@ -26,85 +30,119 @@ use Rattle.text.specs.declared.number.Short.the-variants as Short
 
 -- ---- digits and signs
 
-abbrev pub capped : Option ℕ → Digits
-capped none = Digits.Wrong
-capped (some n) = pick (ltb n (2 ^ 64)) (Digits.Value n) Digits.Wrong
+-- what digits are worth, where it fits a word
+abbrev pub capped : Option ℕ → Worth
+capped none = Worth.None
+capped (some n) = pick (ltb n (2 ^ 64)) (Worth.Value n) Worth.None
 
-abbrev pub signedAs : Num → Signed
-signedAs bad = Signed.Bad
-signedAs (plus n) = Signed.Plus n
-signedAs (minus n) = Signed.Minus n
+abbrev pub signedAs : Option Num → Signed
+signedAs none = Signed.None
+signedAs (some (plus n)) = Signed.Plus n
+signedAs (some (minus n)) = Signed.Minus n
 
-abbrev pub plusD : Digits → Signed
-plusD (Digits.Value n) = pick (ltb n (2 ^ 63)) (Signed.Plus n) Signed.Bad
-plusD Digits.Wrong = Signed.Bad
+abbrev pub plusW : Worth → Signed
+plusW (Worth.Value n) = pick (ltb n (2 ^ 63)) (Signed.Plus n) Signed.None
+plusW Worth.None = Signed.None
 
-abbrev pub minusD : Digits → Signed
-minusD (Digits.Value n) = pick (eqb n 0) (Signed.Plus 0) (pick (leb n (2 ^ 63)) (Signed.Minus n) Signed.Bad)
-minusD Digits.Wrong = Signed.Bad
+abbrev pub minusW : Worth → Signed
+minusW (Worth.Value n) = pick (eqb n 0) (Signed.Plus 0) (pick (leb n (2 ^ 63)) (Signed.Minus n) Signed.None)
+minusW Worth.None = Signed.None
 
 -- ---- lengths
 
-abbrev pub lengthAs : Text.Length → Length
-lengthAs wrong = Length.Wrong
-lengthAs (count n) = Length.Count n
-lengthAs minusOne = Length.MinusOne
+abbrev pub lengthAs : Option Text.Length → Length
+lengthAs none = Length.None
+lengthAs (some (count n)) = Length.Count n
+lengthAs (some minusOne) = Length.MinusOne
 
-abbrev pub below64D : Digits → Length
-below64D (Digits.Value n) = Length.Count n
-below64D Digits.Wrong = Length.Wrong
+abbrev pub lengthW : Worth → Length
+lengthW (Worth.Value n) = Length.Count n
+lengthW Worth.None = Length.None
 
 abbrev pub lengthS : Signed → Length
-lengthS Signed.Bad = Length.Wrong
+lengthS Signed.None = Length.None
 lengthS (Signed.Plus n) = Length.Count n
-lengthS (Signed.Minus n) = pick (eqb n 1) Length.MinusOne Length.Wrong
+lengthS (Signed.Minus n) = pick (eqb n 1) Length.MinusOne Length.None
+
+-- plain, or signed
+abbrev pub lengthText : Bool → Bool → List ℕ → Option Text.Length
+lengthText plain three l = pick plain (plainLength l) (signedLength three l)
 
 -- ---- Numbers: the value modulo 2^64
 
-abbrev pub wordAs : Num → Word
-wordAs bad = Word.Bad
-wordAs (plus n) = Word.Value n
-wordAs (minus n) = Word.Value (2 ^ 64 - n)
+abbrev pub wordAs : Option Num → Word
+wordAs none = Word.None
+wordAs (some (plus n)) = Word.Value n
+wordAs (some (minus n)) = Word.Value (2 ^ 64 - n)
 
--- minus 0 is never made
+abbrev pub minusWord : ℕ → ℕ
+minusWord n = pick (eqb n 0) 0 (2 ^ 64 - n)
+
 abbrev pub wordS : Signed → Word
-wordS Signed.Bad = Word.Bad
+wordS Signed.None = Word.None
 wordS (Signed.Plus n) = Word.Value n
-wordS (Signed.Minus n) = pick (eqb n 0) (Word.Value 0) (Word.Value (2 ^ 64 - n))
+wordS (Signed.Minus n) = Word.Value (minusWord n)
 
--- ---- lines: of the text l at a place, whose first line has n bytes or is not there yet
+-- ---- lines: the first line of the text l, that stands at a place, has n bytes or is not there yet
 
--- plain, or signed
-abbrev pub lengthFor : Bool → Bool → List ℕ → Text.Length
-lengthFor plain three l = pick plain (plainLength l) (signedLength three l)
+-- what a length says, with the cursor behind its line; one that is none is refused with 2
+abbrev pub lengthSaid : Cursor → Length → LengthLine
+lengthSaid c (Length.Count n) = LengthLine.Count n c
+lengthSaid c Length.MinusOne = LengthLine.MinusOne c
+lengthSaid c Length.None = LengthLine.Refused 2 (c .at)
 
-abbrev pub lengthLineOf : ℕ → Length → LengthLine
-lengthLineOf next (Length.Count n) = LengthLine.Count n next
-lengthLineOf next Length.MinusOne = LengthLine.MinusOne next
-lengthLineOf next Length.Wrong = LengthLine.Wrong next
+abbrev pub lengthLineOf : Bool → Bool → List ℕ → ℕ → Option ℕ → LengthLine
+lengthLineOf plain three l at none = LengthLine.More
+lengthLineOf plain three l at (some n) = lengthSaid (record { at = at + n }) (lengthAs (lengthText plain three (take (n - 2) l)))
 
-abbrev pub lengthLineAt : Bool → Bool → List ℕ → ℕ → Option ℕ → LengthLine
-lengthLineAt plain three l at none = LengthLine.More
-lengthLineAt plain three l at (some n) = lengthLineOf (at + n) (lengthAs (lengthFor plain three (take (n - 2) l)))
+-- the length on the line of s at a place
+abbrev pub lengthLine : Bool → Bool → List ℕ → ℕ → LengthLine
+lengthLine plain three s at = lengthLineOf plain three (drop at s) at (lineLen (drop at s))
 
-abbrev pub numberLineOf : ℕ → Word → NumberLine
-numberLineOf next (Word.Value n) = NumberLine.Value n next
-numberLineOf next Word.Bad = NumberLine.Bad next
+-- the same of a Number, which is refused with 3
+abbrev pub numberSaid : Cursor → Word → NumberLine
+numberSaid c (Word.Value n) = NumberLine.Value n c
+numberSaid c Word.None = NumberLine.Refused 3 (c .at)
 
-abbrev pub numberLineAt : List ℕ → ℕ → Option ℕ → NumberLine
-numberLineAt l at none = NumberLine.More
-numberLineAt l at (some n) = numberLineOf (at + n) (wordAs (signed (take (n - 2) l)))
+abbrev pub numberLineOf : List ℕ → ℕ → Option ℕ → NumberLine
+numberLineOf l at none = NumberLine.More
+numberLineOf l at (some n) = numberSaid (record { at = at + n }) (wordAs (signed (take (n - 2) l)))
 
--- ---- a short number
+abbrev pub numberLine : List ℕ → ℕ → NumberLine
+numberLine s at = numberLineOf (drop at s) at (lineLen (drop at s))
 
--- the line at `at` ends before `next`, and its text is digits worth v
-pub record ShortLine (s : List ℕ) (at v next : ℕ) : Type 0 where
+-- ---- short lines of digits
+
+-- r is what the digit b is worth, and past 9 where b is none
+pub record DigitOf (b r : ℕ) : Type 0 where
+  pub value : r ≤ 9 → r + code "0" ≡ b
+  pub none : 9 < r → code "0" ≤ b → b ≤ code "9" → ⊥
+
+-- the line at `at` ends before `next`, and its text is 1 to `most` digits, worth v
+pub record ShortLine (most : ℕ) (s : List ℕ) (at v next : ℕ) : Type 0 where
   pub n : ℕ
   pub ends : lineLen (drop at s) ≡ some n
   pub to : at + n ≡ next
   pub worth : digits (take (n - 2) (drop at s)) ≡ some v
+  pub few : n ≤ most + 2
   pub small : v < 10 ^ 18
 
+-- that line, or that there is none such
+abbrev pub ShortIn : ℕ → List ℕ → ℕ → Short → Type 0
+ShortIn most s at (Short.Got v c) = ShortLine most s at v (c .at)
+ShortIn most s at Short.No = (v next : ℕ) → ShortLine most s at v next → ⊥
+
+-- at most 18 digits, so that their value is below 10^18
 abbrev pub ShortAt : List ℕ → ℕ → Short → Type 0
-ShortAt s at (Short.Got v next) = ShortLine s at v next
-ShortAt s at Short.No = Unit {0}
+ShortAt = ShortIn 18
+
+-- Any two answers that the promise allows are equal.
+pub one-short : (most : ℕ) (s : List ℕ) (at : ℕ) (r q : Short) → ShortIn most s at r → ShortIn most s at q → r ≡ q
+one-short most s at (Short.Got v c) (Short.Got w d) a b =
+    let n : a .n ≡ b .n = cc in
+    let x : c .at ≡ d .at = omega (arith, a .to, b .to) in
+    let y : v ≡ w = cc in
+    ap (λ (k : ℕ). Short.Got v (record { at = k })) x ∙ ap (λ (k : ℕ). Short.Got k d) y
+one-short most s at (Short.Got v c) Short.No a b = absurd (b v (c .at) a)
+one-short most s at Short.No (Short.Got w d) a b = absurd (a w (d .at) b)
+one-short most s at Short.No Short.No a b = refl

@@ -1,57 +1,57 @@
 // Lengths and Numbers: their texts, and the lines that hold them.
-use crate::scan::Found;
+use crate::Cursor;
+use crate::Ruled;
+use crate::Taken;
 ghost use mathlib.Core.Path.{_≡_};
-ghost use Prim.Native.Nat.{_+_, _-_, _≤_};
+ghost use Prim.Native.Nat.{_+_, _-_, _≤_, _<_};
 ghost use lib.ListN.{length, take, drop};
-ghost use Rattle.meaning.specs.Demand.{lineLen};
 ghost use Rattle.meaning.specs.Text.{digits, signed, plainLength, signedLength};
-ghost use Rattle.text.specs.Numbers.{capped, plusD, minusD, below64D, lengthS, wordS, signedAs, lengthAs, wordAs, lengthFor, lengthLineAt, lengthLineOf, numberLineAt, numberLineOf, ShortAt};
+ghost use Rattle.text.specs.Numbers.{capped, plusW, minusW, lengthW, lengthS, wordS, minusWord, signedAs, lengthAs, wordAs, lengthText, lengthSaid, lengthLine, numberSaid, numberLine, DigitOf, ShortIn, ShortAt};
 
 // What digits are worth.
-enum Digits {
+enum Worth {
     Value(u64),
-    Wrong,
+    None,
 }
 
 // A signed text's value, as a sign and a magnitude.
 enum Signed {
     Plus(u64),
     Minus(u64),
-    Bad,
+    None,
 }
 
 // What a length's text says.
 pub enum Length {
     Count(u64),
     MinusOne,
-    Wrong,
+    None,
 }
 
 // A Number's value modulo 2^64.
 pub enum Word {
     Value(u64),
-    Bad,
+    None,
 }
 
-// What a length's line says; the offset is the place after its CR LF.
+// What a length's line says, and the cursor behind it; or the number that it is refused with, and the place that settled it.
 pub enum LengthLine {
-    Count(u64, usize),
-    MinusOne(usize),
-    Wrong(usize),
+    Count(u64, Cursor),
+    MinusOne(Cursor),
+    Refused(u64, usize),
     More,
 }
 
 // The same of a Number's line.
 pub enum NumberLine {
-    Value(u64, usize),
-    Bad(usize),
+    Value(u64, Cursor),
+    Refused(u64, usize),
     More,
 }
 
-// A short line's value and the place after it.
-// A short number's value and the place after its line, or that there is none such.
+// What a short line's digits are worth, and the cursor behind it; or that no such line stands there.
 pub enum Short {
-    Got(u64, usize),
+    Got(u64, Cursor),
     No,
 }
 
@@ -62,68 +62,68 @@ fn wide(x: u8) -> u64
 }
 
 // The value of the digits from `from` to `to`, at most 2^64 - 1: a value that is past it stays past it.
-fn magnitude(s: &[u8], from: usize, to: usize) -> Digits
+fn magnitude(s: &[u8], from: usize, to: usize) -> Worth
     requires { ⌜ (from ≤ to) × (to ≤ length (now s)) ⌝ }
     ensures { λ r. ⌜ r ≡ capped (digits (take (to - from) (drop from (now (s .entry))))) ⌝ }
 {
     if from == to {
-        return Digits::Wrong;
+        return Worth::None;
     }
     let mut v: u64 = 0;
     let mut i = from;
     while i < to {
         let b = s[i];
-        if b < 48 {
-            return Digits::Wrong;
+        if b < b'0' {
+            return Worth::None;
         }
-        if 57 < b {
-            return Digits::Wrong;
+        if b'9' < b {
+            return Worth::None;
         }
-        let d = wide(b - 48);
+        let d = wide(b - b'0');
         if 1844674407370955161 < v {
-            return Digits::Wrong;
+            return Worth::None;
         }
         if 18446744073709551615 - v * 10 < d {
-            return Digits::Wrong;
+            return Worth::None;
         }
         v = v * 10 + d;
         i = i + 1;
     }
-    Digits::Value(v)
+    Worth::Value(v)
 }
 
 // ---- signed texts
 
-fn as_plus(d: Digits) -> Signed
-    ensures { λ r. ⌜ r ≡ plusD d ⌝ }
+fn as_plus(d: Worth) -> Signed
+    ensures { λ r. ⌜ r ≡ plusW d ⌝ }
 {
     match d {
-        Digits::Value(n) => {
+        Worth::Value(n) => {
             if n < 9223372036854775808 {
                 Signed::Plus(n)
             } else {
-                Signed::Bad
+                Signed::None
             }
         }
-        Digits::Wrong => Signed::Bad,
+        Worth::None => Signed::None,
     }
 }
 
 // Minus 0 is plus 0.
-fn as_minus(d: Digits) -> Signed
-    ensures { λ r. ⌜ r ≡ minusD d ⌝ }
+fn as_minus(d: Worth) -> Signed
+    ensures { λ r. ⌜ r ≡ minusW d ⌝ }
 {
     match d {
-        Digits::Value(n) => {
+        Worth::Value(n) => {
             if n == 0 {
                 Signed::Plus(0)
             } else if n <= 9223372036854775808 {
                 Signed::Minus(n)
             } else {
-                Signed::Bad
+                Signed::None
             }
         }
-        Digits::Wrong => Signed::Bad,
+        Worth::None => Signed::None,
     }
 }
 
@@ -133,13 +133,13 @@ fn signed_text(s: &[u8], from: usize, to: usize) -> Signed
     ensures { λ r. ⌜ r ≡ signedAs (signed (take (to - from) (drop from (now (s .entry))))) ⌝ }
 {
     if from == to {
-        return Signed::Bad;
+        return Signed::None;
     }
     let b = s[from];
-    if b == 43 {
+    if b == b'+' {
         return as_plus(magnitude(s, from + 1, to));
     }
-    if b == 45 {
+    if b == b'-' {
         return as_minus(magnitude(s, from + 1, to));
     }
     as_plus(magnitude(s, from, to))
@@ -147,12 +147,12 @@ fn signed_text(s: &[u8], from: usize, to: usize) -> Signed
 
 // ---- lengths
 
-fn as_length(d: Digits) -> Length
-    ensures { λ r. ⌜ r ≡ below64D d ⌝ }
+fn as_length(d: Worth) -> Length
+    ensures { λ r. ⌜ r ≡ lengthW d ⌝ }
 {
     match d {
-        Digits::Value(n) => Length::Count(n),
-        Digits::Wrong => Length::Wrong,
+        Worth::Value(n) => Length::Count(n),
+        Worth::None => Length::None,
     }
 }
 
@@ -162,9 +162,9 @@ pub fn plain_length(s: &[u8], from: usize, to: usize) -> Length
     ensures { λ r. ⌜ r ≡ lengthAs (plainLength (take (to - from) (drop from (now (s .entry))))) ⌝ }
 {
     if from == to {
-        return Length::Wrong;
+        return Length::None;
     }
-    if s[from] == 43 {
+    if s[from] == b'+' {
         return as_length(magnitude(s, from + 1, to));
     }
     as_length(magnitude(s, from, to))
@@ -179,10 +179,10 @@ fn as_signed_length(n: Signed) -> Length
             if x == 1 {
                 Length::MinusOne
             } else {
-                Length::Wrong
+                Length::None
             }
         }
-        Signed::Bad => Length::Wrong,
+        Signed::None => Length::None,
     }
 }
 
@@ -193,7 +193,7 @@ pub fn signed_length(s: &[u8], from: usize, to: usize, three: bool) -> Length
 {
     if three {
         if to - from == 1 {
-            if s[from] == 63 {
+            if s[from] == b'?' {
                 return Length::MinusOne;
             }
         }
@@ -203,19 +203,24 @@ pub fn signed_length(s: &[u8], from: usize, to: usize, three: bool) -> Length
 
 // ---- Numbers
 
+// Minus v, modulo 2^64.
+pub fn minus_word(v: u64) -> u64
+    ensures { λ r. ⌜ r ≡ minusWord v ⌝ }
+{
+    if v == 0 {
+        0
+    } else {
+        18446744073709551615 - v + 1
+    }
+}
+
 fn as_word(n: Signed) -> Word
     ensures { λ r. ⌜ r ≡ wordS n ⌝ }
 {
     match n {
         Signed::Plus(x) => Word::Value(x),
-        Signed::Minus(x) => {
-            if x == 0 {
-                Word::Value(0)
-            } else {
-                Word::Value(18446744073709551615 - x + 1)
-            }
-        }
-        Signed::Bad => Word::Bad,
+        Signed::Minus(x) => Word::Value(minus_word(x)),
+        Signed::None => Word::None,
     }
 }
 
@@ -227,64 +232,78 @@ pub fn number(s: &[u8], from: usize, to: usize) -> Word
     as_word(signed_text(s, from, to))
 }
 
-// ---- lines
+// ---- short lines of digits
 
-// 18 past `at`, or the end where it comes before that.
-fn near(at: usize, end: usize) -> usize
-    requires { ⌜ at ≤ end ⌝ }
-    ensures { λ r. ⌜ (r ≤ end) × (r ≤ at + 18) ⌝ }
+// A digit's value; of any other byte a number past 9. One difference serves the test and the value.
+fn digit(b: u8) -> u64
+    ensures { λ r. ⌜ DigitOf b r ⌝ }
 {
-    if end - at < 18 { end } else { at + 18 }
+    std::num::wrapping_sub_u64(wide(b), wide(b'0'))
 }
 
-// At most 18 digits and then CR LF, in one pass: most lengths and Numbers. A walk tries it before the line of any length, so it may say No at will.
-pub fn short_digits(s: &[u8], at: usize) -> Short
-    requires { ⌜ at ≤ length (now s) ⌝ }
-    ensures { λ r. ⌜ ShortAt (now (s .entry)) at r ⌝ }
+// n, or 18 where it is more.
+fn at_most_18(n: usize) -> usize
+    ensures { λ r. ⌜ (r ≤ n) × ((r ≤ 18) × (r < 18 → r ≡ n)) ⌝ }
 {
-    let n = s.len();
-    let end = near(at, n);
+    if n < 18 { n } else { 18 }
+}
+
+// At most `most` digits and then CR LF, in one pass. Small, and called with more than one `most`: so it is compiled into each caller, and where the caller gives a constant the loop becomes straight code.
+pub fn digits_line(s: &[u8], c: Cursor, most: usize) -> Short
+    requires { ⌜ (most ≤ 18) × (c .at + most + 2 ≤ length (now s)) ⌝ }
+    ensures { λ r. ⌜ ShortIn most (now (s .entry)) (c .at) r ⌝ }
+{
+    let at = c.at;
     let mut v: u64 = 0;
-    let mut i = at;
-    while i < end {
-        let b = s[i];
-        if b < 48 {
+    let mut k: usize = 0;
+    while k < most {
+        let d = digit(s[at + k]);
+        if 9 < d {
             break;
         }
-        if 57 < b {
-            break;
-        }
-        v = v * 10 + wide(b - 48);
-        i = i + 1;
+        v = v * 10 + d;
+        k = k + 1;
     }
-    if i == at {
+    if k == 0 {
         return Short::No;
     }
-    if n - i < 2 {
-        return Short::No;
-    }
-    if s[i] == 13 {
-        if s[i + 1] == 10 {
-            return Short::Got(v, i + 2);
+    let i = at + k;
+    if s[i] == b'\r' {
+        if s[i + 1] == b'\n' {
+            return Short::Got(v, Cursor { at: i + 2 });
         }
     }
     Short::No
 }
 
-fn length_said(n: Length, next: usize) -> LengthLine
-    ensures { λ r. ⌜ r ≡ lengthLineOf next n ⌝ }
+// At most 18 digits and then CR LF: most lengths and Numbers. It is tried before the line of any length.
+pub fn short_digits(s: &[u8], c: Cursor) -> Short
+    requires { ⌜ c .at ≤ length (now s) ⌝ }
+    ensures { λ r. ⌜ ShortAt (now (s .entry)) (c .at) r ⌝ }
+{
+    let left = s.len() - c.at;
+    if left < 3 {
+        return Short::No;
+    }
+    digits_line(s, c, at_most_18(left - 2))
+}
+
+// ---- a length's line
+
+fn length_said(n: Length, c: Cursor) -> LengthLine
+    ensures { λ r. ⌜ r ≡ lengthSaid c n ⌝ }
 {
     match n {
-        Length::Count(x) => LengthLine::Count(x, next),
-        Length::MinusOne => LengthLine::MinusOne(next),
-        Length::Wrong => LengthLine::Wrong(next),
+        Length::Count(x) => LengthLine::Count(x, c),
+        Length::MinusOne => LengthLine::MinusOne(c),
+        Length::None => LengthLine::Refused(2, c.at),
     }
 }
 
 // The text of a length, plain or signed.
 fn length_text(s: &[u8], from: usize, to: usize, plain: bool, three: bool) -> Length
     requires { ⌜ (from ≤ to) × (to ≤ length (now s)) ⌝ }
-    ensures { λ r. ⌜ r ≡ lengthAs (lengthFor plain three (take (to - from) (drop from (now (s .entry))))) ⌝ }
+    ensures { λ r. ⌜ r ≡ lengthAs (lengthText plain three (take (to - from) (drop from (now (s .entry))))) ⌝ }
 {
     if plain {
         plain_length(s, from, to)
@@ -293,72 +312,76 @@ fn length_text(s: &[u8], from: usize, to: usize, plain: bool, three: bool) -> Le
     }
 }
 
-// A length's line, scanned for its end and then read.
-fn length_scanned(s: &[u8], at: usize, plain: bool, three: bool) -> LengthLine
-    requires { ⌜ at ≤ length (now s) ⌝ }
-    ensures { λ r. ⌜ r ≡ lengthLineAt plain three (drop at (now (s .entry))) at (lineLen (drop at (now (s .entry)))) ⌝ }
+// The same as `length_line`, for a caller that found no short line of digits there: the line is scanned for its end and then read.
+pub fn length_scanned(s: &[u8], c: Cursor, plain: bool, three: bool) -> LengthLine
+    requires { ⌜ c .at ≤ length (now s) ⌝ }
+    ensures { λ r. ⌜ r ≡ lengthLine plain three (now (s .entry)) (c .at) ⌝ }
 {
-    match crate::scan::line_end(s, at) {
-        Found::Next(next) => length_said(length_text(s, at, next - 2, plain, three), next),
-        Found::More => LengthLine::More,
+    match c.line(s) {
+        Ruled::Text(from, end, next) => length_said(length_text(s, from, end, plain, three), next),
+        Ruled::More => LengthLine::More,
     }
 }
 
-// The length on the line at `at`: plain, or signed and in RESP3 (`three`) or not.
-pub fn length_line(s: &[u8], at: usize, plain: bool, three: bool) -> LengthLine
-    requires { ⌜ at ≤ length (now s) ⌝ }
-    ensures { λ r. ⌜ r ≡ lengthLineAt plain three (drop at (now (s .entry))) at (lineLen (drop at (now (s .entry)))) ⌝ }
+// The length on the line here: plain, or signed and in RESP3 (`three`) or not.
+pub fn length_line(s: &[u8], c: Cursor, plain: bool, three: bool) -> LengthLine
+    requires { ⌜ c .at ≤ length (now s) ⌝ }
+    ensures { λ r. ⌜ r ≡ lengthLine plain three (now (s .entry)) (c .at) ⌝ }
 {
-    match short_digits(s, at) {
+    match short_digits(s, c) {
         Short::Got(v, next) => LengthLine::Count(v, next),
-        Short::No => length_scanned(s, at, plain, three),
+        Short::No => length_scanned(s, c, plain, three),
     }
 }
 
-fn number_said(n: Word, next: usize) -> NumberLine
-    ensures { λ r. ⌜ r ≡ numberLineOf next n ⌝ }
+// ---- a Number's line
+
+fn number_said(n: Word, c: Cursor) -> NumberLine
+    ensures { λ r. ⌜ r ≡ numberSaid c n ⌝ }
 {
     match n {
-        Word::Value(x) => NumberLine::Value(x, next),
-        Word::Bad => NumberLine::Bad(next),
+        Word::Value(x) => NumberLine::Value(x, c),
+        Word::None => NumberLine::Refused(3, c.at),
     }
 }
 
 // A Number's line, scanned for its end and then read.
-fn number_scanned(s: &[u8], at: usize) -> NumberLine
-    requires { ⌜ at ≤ length (now s) ⌝ }
-    ensures { λ r. ⌜ r ≡ numberLineAt (drop at (now (s .entry))) at (lineLen (drop at (now (s .entry)))) ⌝ }
+fn number_scanned(s: &[u8], c: Cursor) -> NumberLine
+    requires { ⌜ c .at ≤ length (now s) ⌝ }
+    ensures { λ r. ⌜ r ≡ numberLine (now (s .entry)) (c .at) ⌝ }
 {
-    match crate::scan::line_end(s, at) {
-        Found::Next(next) => number_said(number(s, at, next - 2), next),
-        Found::More => NumberLine::More,
+    match c.line(s) {
+        Ruled::Text(from, end, next) => number_said(number(s, from, end), next),
+        Ruled::More => NumberLine::More,
     }
 }
 
-// A short negative Number is read in one pass too.
-fn minus_line(s: &[u8], at: usize) -> NumberLine
-    requires { ⌜ at ≤ length (now s) ⌝ }
-    ensures { λ r. ⌜ r ≡ numberLineAt (drop at (now (s .entry))) at (lineLen (drop at (now (s .entry)))) ⌝ }
+// The same as `number_line`, for a caller that found no short line of digits there: such a line behind a minus, or the scan.
+pub fn minus_line(s: &[u8], c: Cursor) -> NumberLine
+    requires { ⌜ c .at ≤ length (now s) ⌝ }
+    ensures { λ r. ⌜ r ≡ numberLine (now (s .entry)) (c .at) ⌝ }
 {
-    if s.len() <= at {
-        return number_scanned(s, at);
-    }
-    if s[at] != 45 {
-        return number_scanned(s, at);
-    }
-    match short_digits(s, at + 1) {
-        Short::Got(v, next) => number_said(as_word(as_minus(Digits::Value(v))), next),
-        Short::No => number_scanned(s, at),
+    match c.byte(s) {
+        Taken::Byte(b, behind) => {
+            if b != b'-' {
+                return number_scanned(s, c);
+            }
+            match short_digits(s, behind) {
+                Short::Got(v, next) => NumberLine::Value(minus_word(v), next),
+                Short::No => number_scanned(s, c),
+            }
+        }
+        Taken::More => NumberLine::More,
     }
 }
 
-// The Number on the line at `at`.
-pub fn number_line(s: &[u8], at: usize) -> NumberLine
-    requires { ⌜ at ≤ length (now s) ⌝ }
-    ensures { λ r. ⌜ r ≡ numberLineAt (drop at (now (s .entry))) at (lineLen (drop at (now (s .entry)))) ⌝ }
+// The Number on the line here.
+pub fn number_line(s: &[u8], c: Cursor) -> NumberLine
+    requires { ⌜ c .at ≤ length (now s) ⌝ }
+    ensures { λ r. ⌜ r ≡ numberLine (now (s .entry)) (c .at) ⌝ }
 {
-    match short_digits(s, at) {
+    match short_digits(s, c) {
         Short::Got(v, next) => NumberLine::Value(v, next),
-        Short::No => minus_line(s, at),
+        Short::No => minus_line(s, c),
     }
 }

@@ -4,25 +4,29 @@ use mathlib.Core.List.{List, [], _∷_}
 use mathlib.Core.Bool.{Bool, true, false, _&&_, _||_, or-true, or-false}
 use mathlib.Core.Option.{Option, none, some}
 use Prim.Native.Nat.{ℕ, _+_, _-_, _*_, _≤_, _<_}
+use Prim.Native.Char.{code}
 use native.Mathlib.Omega.{arith}
 use lib.ListN.{length, getD}
 use lib.Dec.{eqb, ltb}
 use borrow.Author.Tests.{le-leb, lt-leb, lt-ltb, le-ltb, eq-eqb, ne-eqb, ltb-true, ltb-false}
-use Rattle.meaning.specs.Demand.{pick}
+use Rattle.meaning.specs.Choice.{pick}
 use Rattle.meaning.specs.Text.{isWord, isDigit, digitsFrom, digits, afterSign, afterDigits, startsDigit, allDigits, exponent, fraction, decimal, unsignedDouble, double}
-use Rattle.text3.specs.Answers.{Past}
+use Rattle.text3.specs.Answers.{isE, Past}
 use Rattle.text3.proofs.Ranges.{between, cut, ended}
 
 -- ---- a byte
 
-pub digit : (c : ℕ) → 48 ≤ c → c ≤ 57 → isDigit c ≡ true
-digit c p q = rw (le-leb 48 c p, le-leb c 57 q)
+pub digit : (c : ℕ) → code "0" ≤ c → c ≤ code "9" → isDigit c ≡ true
+digit c p q = rw (le-leb (code "0") c p, le-leb c (code "9") q)
 
-pub low : (c : ℕ) → c < 48 → isDigit c ≡ false
-low c h = rw (lt-leb 48 c h)
+pub low : (c : ℕ) → c < code "0" → isDigit c ≡ false
+low c h = rw (lt-leb (code "0") c h)
 
-pub high : (c : ℕ) → 57 < c → isDigit c ≡ false
-high c h = rw (le-leb 48 c (omega arith), lt-leb c 57 h)
+pub high : (c : ℕ) → code "9" < c → isDigit c ≡ false
+high c h = rw (le-leb (code "0") c (omega arith), lt-leb c (code "9") h)
+
+abbrev pub isSign : ℕ → Bool
+isSign c = eqb c (code "+") || eqb c (code "-")
 
 -- ---- a sign
 
@@ -32,15 +36,15 @@ module _ (s : List ℕ) (from to : ℕ) (k : to ≤ length s) where
   no-sign-end e = record { low = omega arith; high = omega arith; rest = rw (ended s from to (omega arith)) }
 
   module _ (h : from < to) where
-    sign-at : {b : Bool} → (eqb (getD s from 0) 43 || eqb (getD s from 0) 45) ≡ b
+    sign-at : {b : Bool} → isSign (getD s from 0) ≡ b
         → afterSign (between s from to) ≡ pick b (between s (from + 1) to) (getD s from 0 ∷ between s (from + 1) to)
     unfolding afterSign
     sign-at e = rw (cut s from to h k, e)
 
-    pub sign : (eqb (getD s from 0) 43 || eqb (getD s from 0) 45) ≡ true → Past afterSign s from to (from + 1)
+    pub sign : isSign (getD s from 0) ≡ true → Past afterSign s from to (from + 1)
     sign e = record { low = omega arith; high = omega arith; rest = sym (sign-at e) }
 
-    pub no-sign : (eqb (getD s from 0) 43 || eqb (getD s from 0) 45) ≡ false → Past afterSign s from to from
+    pub no-sign : isSign (getD s from 0) ≡ false → Past afterSign s from to from
     no-sign e = record { low = omega arith; high = omega arith; rest = cut s from to h k ∙ sym (sign-at e) }
 
 -- ---- digits passed
@@ -99,10 +103,10 @@ all-some s (some n) e = rw e
 from-some : (s : List ℕ) (acc : ℕ) → isSome (digitsFrom acc s) ≡ isNil (afterDigits s)
 unfolding digitsFrom afterDigits isSome isNil
 from-some [] acc = refl
-from-some (c ∷ r) acc = go (isDigit c) (from-some r (acc * 10 + (c - 48)))
+from-some (c ∷ r) acc = go (isDigit c) (from-some r (acc * 10 + (c - code "0")))
   where
-    go : (b : Bool) → isSome (digitsFrom (acc * 10 + (c - 48)) r) ≡ isNil (afterDigits r)
-        → isSome (pick b (digitsFrom (acc * 10 + (c - 48)) r) none) ≡ isNil (pick b (afterDigits r) (c ∷ r))
+    go : (b : Bool) → isSome (digitsFrom (acc * 10 + (c - code "0")) r) ≡ isNil (afterDigits r)
+        → isSome (pick b (digitsFrom (acc * 10 + (c - code "0")) r) none) ≡ isNil (pick b (afterDigits r) (c ∷ r))
     go true e = e
     go false e = refl
 
@@ -139,18 +143,18 @@ module _ (s : List ℕ) (from to : ℕ) where
   fraction-none w e = rw (ended s from to (omega arith))
 
   module _ (h : from < to) (k : to ≤ length s) where
-    pub exponent-at : exponent (between s from to) ≡ ((eqb (getD s from 0) 101 || eqb (getD s from 0) 69) && allDigits (afterSign (between s (from + 1) to)))
+    pub exponent-at : exponent (between s from to) ≡ (isE (getD s from 0) && allDigits (afterSign (between s (from + 1) to)))
     unfolding exponent
     exponent-at = rw (cut s from to h k)
 
-    pub fraction-dot : (w : Bool) → getD s from 0 ≡ 46
+    pub fraction-dot : (w : Bool) → getD s from 0 ≡ code "."
         → fraction w (between s from to) ≡ ((w || startsDigit (between s (from + 1) to)) && exponent (afterDigits (between s (from + 1) to)))
     unfolding fraction
-    fraction-dot w e = rw (cut s from to h k, eq-eqb (getD s from 0) 46 e)
+    fraction-dot w e = rw (cut s from to h k, eq-eqb (getD s from 0) (code ".") e)
 
-    pub fraction-plain : (w : Bool) → (getD s from 0 ≡ 46 → ⊥) → fraction w (between s from to) ≡ (w && exponent (between s from to))
+    pub fraction-plain : (w : Bool) → (getD s from 0 ≡ code "." → ⊥) → fraction w (between s from to) ≡ (w && exponent (between s from to))
     unfolding fraction
-    fraction-plain w n = rw (cut s from to h k, ne-eqb (getD s from 0) 46 n)
+    fraction-plain w n = rw (cut s from to h k, ne-eqb (getD s from 0) (code ".") n)
 
 -- ---- a sign, and a word or a decimal
 

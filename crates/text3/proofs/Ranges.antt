@@ -1,11 +1,11 @@
 -- The part of a list from one place to another, taken byte by byte.
 use mathlib.Core.Path.{_≡_}
-use mathlib.Core.List.{List, [], _∷_, _++_}
+use mathlib.Core.List.{List, [], _∷_}
 use Prim.Native.Nat.{ℕ, suc, _+_, _-_, _≤_, _<_}
 use native.Mathlib.Omega.{arith}
 use native.Mathlib.Numerals.{add-one}
 use lib.ListN.{length, take, drop, getD, length-drop}
-use lib.Seq.{drop-cons, take-suc, getD-drop, length-take-le}
+use lib.Seq.{drop-cons, length-take-le}
 
 abbrev pub between : List ℕ → ℕ → ℕ → List ℕ
 between s from to = take (to - from) (drop from s)
@@ -21,10 +21,3 @@ ended s i to e = let z : to - i ≡ 0 = omega arith in rw z
 
 pub length-between : (s : List ℕ) (i to : ℕ) → to ≤ length s → length (between s i to) ≡ to - i
 length-between s i to k = length-take-le (to - i) (drop i s) (omega (arith, length-drop i s))
-
-pub extend : (s : List ℕ) (from i : ℕ) → from ≤ i → i < length s → between s from (i + 1) ≡ between s from i ++ (getD s i 0 ∷ [])
-extend s from i l h =
-    let m : i + 1 - from ≡ suc (i - from) = omega arith in
-    let b : i - from < length (drop from s) = omega (arith, length-drop from s) in
-    let p : from + (i - from) ≡ i = omega arith in
-    rw (m, take-suc (drop from s) (i - from) 0 b, getD-drop from s (i - from) 0, p)

@@ -2,16 +2,14 @@
 use mathlib.Core.Path.{_≡_, refl, ap}
 use mathlib.Core.List.{List, [], _∷_, map}
 use mathlib.Core.Bool.{Bool, true, false, _&&_, false≢true}
-use mathlib.Core.Option.{none, some}
 use Prim.Native.Nat.{ℕ, suc, _+_, _-_, _≤_, _<_}
 use native.Mathlib.Omega.{arith}
 use native.Mathlib.Numerals.{add-one}
-use lib.ListN.{length, take, drop, getD, length-map}
+use lib.ListN.{length, drop, getD, length-map}
 use lib.Seq.{drop-cons, drop-length}
 use lib.Dec.{eqb}
 use borrow.Author.Tests.{eq-eqb, ne-eqb}
-use Rattle.meaning.specs.Demand.{pick}
-use Rattle.meaning.specs.Text.{same, is, boolean, format}
+use Rattle.meaning.specs.Text.{same}
 use Rattle.text3.proofs.Ranges.{between, cut, ended, length-between}
 
 pub same-even : (a b : List ℕ) → same a b ≡ true → length a ≡ length b
@@ -64,16 +62,3 @@ module _ (f : ℕ → ℕ) (s w : List ℕ) (from to : ℕ) (k : to ≤ length s
 
 pub plain : (l w : List ℕ) → same l w ≡ same (map (λ x. x) l) w
 plain l w = ap (λ (x : List ℕ). same x w) (map-id l)
-
--- ---- what the comparisons say of booleans and formats
-
-pub boolean-by : (l : List ℕ) {t f : Bool} → t ≡ is "t" l → f ≡ is "f" l → boolean l ≡ pick t (some 1) (pick f (some 0) none)
-unfolding boolean
-boolean-by l p q = rw (p, q)
-
-pub format-by : (s : List ℕ) (from : ℕ) {t m : Bool} → t ≡ is "txt" (between s from (from + 3))
-    → m ≡ is "mkd" (between s from (from + 3)) → format (take 3 (drop from s)) ≡ pick t 1 (pick m 2 0)
-unfolding format
-format-by s from p q =
-    let n : from + 3 - from ≡ 3 = omega arith in
-    rw (p, q, n)

@@ -1,11 +1,10 @@
 // Doubles: a sign, then a word, or digits with at most one dot and an exponent.
 ghost use mathlib.Core.Path.{_≡_};
-ghost use mathlib.Core.Bool.{_||_};
 ghost use Prim.Native.Nat.{_+_, _-_, _≤_, _<_};
 ghost use lib.ListN.{length, take, drop};
-ghost use lib.Dec.{ltb, eqb};
+ghost use lib.Dec.{ltb};
 ghost use Rattle.meaning.specs.Text.{afterSign, afterDigits, startsDigit, allDigits, exponent, fraction, decimal, unsignedDouble, double};
-ghost use Rattle.text3.specs.Answers.{Past};
+ghost use Rattle.text3.specs.Answers.{isE, Past};
 use crate::word::is_word;
 
 // The place after a sign, where one stands.
@@ -15,10 +14,10 @@ fn after_sign(s: &[u8], from: usize, to: usize) -> usize
 {
     if from < to {
         let b = s[from];
-        if b == 43 {
+        if b == b'+' {
             return from + 1;
         }
-        if b == 45 {
+        if b == b'-' {
             return from + 1;
         }
     }
@@ -34,10 +33,10 @@ fn after_digits(s: &[u8], from: usize, to: usize) -> usize
     let mut i = from;
     while i < to {
         let b = s[i];
-        if b < 48 {
+        if b < b'0' {
             return i;
         }
-        if 57 < b {
+        if b'9' < b {
             return i;
         }
         i = i + 1;
@@ -57,12 +56,12 @@ fn all_digits(s: &[u8], from: usize, to: usize) -> bool
 }
 
 fn is_e(b: u8) -> bool
-    ensures { λ r. ⌜ r ≡ (eqb b 101 || eqb b 69) ⌝ }
+    ensures { λ r. ⌜ r ≡ isE b ⌝ }
 {
-    if b == 101 {
+    if b == b'e' {
         return true;
     }
-    b == 69
+    b == b'E'
 }
 
 // Nothing, or an exponent.
@@ -88,7 +87,7 @@ fn fraction(s: &[u8], from: usize, to: usize, whole: bool) -> bool
     if from == to {
         return whole;
     }
-    if s[from] == 46 {
+    if s[from] == b'.' {
         let end = after_digits(s, from + 1, to);
         if whole {
             return exponent(s, end, to);

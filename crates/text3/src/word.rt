@@ -1,14 +1,14 @@
-// Texts that are one of a few words: booleans and verbatim formats, and the comparisons behind them.
+// Texts that are one of two words: booleans, verbatim formats and HELLO's versions, and the comparisons behind them.
 ghost use mathlib.Core.Path.{_≡_};
 ghost use mathlib.Core.List.{map};
 ghost use Prim.Native.Nat.{_+_, _-_, _≤_};
 ghost use lib.ListN.{length, take, drop};
-ghost use Rattle.meaning.specs.Text.{same, lower, boolean, format};
-ghost use Rattle.text3.specs.Answers.{flagOf};
+ghost use Rattle.meaning.specs.Text.{same, lower, boolean, format, version};
+ghost use Rattle.text3.specs.Answers.{flagOf, oneWord};
 
 pub enum Flag {
     Value(u64),
-    Bad,
+    None,
 }
 
 // The text is that word, byte by byte.
@@ -34,13 +34,13 @@ pub fn is_text(s: &[u8], from: usize, to: usize, word: &[u8]) -> bool
 fn lowered(b: u8) -> u8
     ensures { λ r. ⌜ r ≡ lower b ⌝ }
 {
-    if b < 65 {
+    if b < b'A' {
         return b;
     }
-    if 90 < b {
+    if b'Z' < b {
         return b;
     }
-    b + 32
+    b - b'A' + b'a'
 }
 
 // The text is that word of small letters, in any letter case.
@@ -62,30 +62,39 @@ pub fn is_word(s: &[u8], from: usize, to: usize, word: &[u8]) -> bool
     true
 }
 
-// 1 for `t`, 0 for `f`.
+// a for the first word, b for the second.
+pub fn one_of(s: &[u8], from: usize, to: usize, first: &[u8], a: u64, second: &[u8], b: u64) -> Flag
+    requires { ⌜ (from ≤ to) × (to ≤ length (now s)) ⌝ }
+    ensures { λ r. ⌜ r ≡ flagOf (oneWord (now (first .entry)) a (now (second .entry)) b (take (to - from) (drop from (now (s .entry))))) ⌝ }
+{
+    if is_text(s, from, to, first) {
+        return Flag::Value(a);
+    }
+    if is_text(s, from, to, second) {
+        return Flag::Value(b);
+    }
+    Flag::None
+}
+
 pub fn boolean(s: &[u8], from: usize, to: usize) -> Flag
     requires { ⌜ (from ≤ to) × (to ≤ length (now s)) ⌝ }
     ensures { λ r. ⌜ r ≡ flagOf (boolean (take (to - from) (drop from (now (s .entry))))) ⌝ }
 {
-    if is_text(s, from, to, b"t") {
-        return Flag::Value(1);
-    }
-    if is_text(s, from, to, b"f") {
-        return Flag::Value(0);
-    }
-    Flag::Bad
+    one_of(s, from, to, b"t", 1, b"f", 0)
 }
 
-// The format that a verbatim string's three bytes name: 1 txt, 2 mkd, 0 any other.
-pub fn format(s: &[u8], from: usize) -> u64
+// The format that a verbatim string's first three bytes name.
+pub fn format(s: &[u8], from: usize) -> Flag
     requires { ⌜ from + 3 ≤ length (now s) ⌝ }
-    ensures { λ r. ⌜ r ≡ format (take 3 (drop from (now (s .entry)))) ⌝ }
+    ensures { λ r. ⌜ r ≡ flagOf (format (take 3 (drop from (now (s .entry))))) ⌝ }
 {
-    if is_text(s, from, from + 3, b"txt") {
-        return 1;
-    }
-    if is_text(s, from, from + 3, b"mkd") {
-        return 2;
-    }
-    0
+    one_of(s, from, from + 3, b"txt", 1, b"mkd", 2)
+}
+
+// The version that HELLO names.
+pub fn version(s: &[u8], from: usize, to: usize) -> Flag
+    requires { ⌜ (from ≤ to) × (to ≤ length (now s)) ⌝ }
+    ensures { λ r. ⌜ r ≡ flagOf (version (take (to - from) (drop from (now (s .entry))))) ⌝ }
+{
+    one_of(s, from, to, b"2", 2, b"3", 3)
 }

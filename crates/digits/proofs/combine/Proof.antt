@@ -64,7 +64,8 @@ add-x3 c = search needs
 returns : tie.Need-returns
 unfolding value
 returns c =
-    let p = c .before .before .before .before .before .before .before .before .before .before .args .p in
+    let x2 = c .before in let x1 = x2 .before .before in let x0 = x1 .before .before .before in
+    let p = x0 .before .before .before .before .args .p in
     let y3 : ℕ = 281 * p .n3 in
     let y2 : ℕ = 4749 * p .n3 + 42 * p .n2 + 10000 * y3 in
     let y1 : ℕ = 7671 * p .n3 + 9496 * p .n2 + 6 * p .n1 + 10000 * y2 in

@@ -43,20 +43,36 @@ split-requires c κs = search needs
 combine-requires : tie.Need-combine-requires
 combine-requires c κs = search needs
 
+-- where the call began, seen from each group's turn
+abbrev start : tie.After-combine → tie.Start
+start c = c .before .before .before
+
+abbrev second : tie.After-quad2 → tie.Start
+second c = start (c .before .before)
+
+abbrev third : tie.After-quad3 → tie.Start
+third c = second (c .before .before)
+
+abbrev fourth : tie.After-quad4 → tie.Start
+fourth c = third (c .before .before)
+
+abbrev fifth : tie.After-quad5 → tie.Start
+fifth c = fourth (c .before .before)
+
 quad-requires-2 : tie.Need-quad-requires-2
-quad-requires-2 c κs = let s = c .before .before .before .before in (s .pre .0, (s .pre .1, (omega arith, omega arith)))
+quad-requires-2 c κs = let s = start (c .before) in (s .pre .0, (s .pre .1, (omega arith, omega arith)))
 
 quad-requires-3 : tie.Need-quad-requires-3
-quad-requires-3 c κs = let s = c .before .before .before .before .before .before in (s .pre .0, (s .pre .1, (omega arith, omega arith)))
+quad-requires-3 c κs = let s = second (c .before) in (s .pre .0, (s .pre .1, (omega arith, omega arith)))
 
 quad-requires-4 : tie.Need-quad-requires-4
-quad-requires-4 c κs = let s = c .before .before .before .before .before .before .before .before in (s .pre .0, (s .pre .1, (omega arith, omega arith)))
+quad-requires-4 c κs = let s = third (c .before) in (s .pre .0, (s .pre .1, (omega arith, omega arith)))
 
 quad-requires-5 : tie.Need-quad-requires-5
-quad-requires-5 c κs = let s = c .before .before .before .before .before .before .before .before .before .before in (s .pre .0, (s .pre .1, (omega arith, omega arith)))
+quad-requires-5 c κs = let s = fourth (c .before) in (s .pre .0, (s .pre .1, (omega arith, omega arith)))
 
 quad-requires-6 : tie.Need-quad-requires-6
-quad-requires-6 c κs = let s = c .before .before .before .before .before .before .before .before .before .before .before .before in (s .pre .0, (s .pre .1, (omega arith, omega arith)))
+quad-requires-6 c κs = let s = fifth (c .before) in (s .pre .0, (s .pre .1, (omega arith, omega arith)))
 
 returns-2 : tie.Need-returns-2
 unfolding padded

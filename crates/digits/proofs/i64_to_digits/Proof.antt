@@ -23,7 +23,7 @@ u64-to-digits-requires : tie.Need-u64-to-digits-requires
 u64-to-digits-requires c κs = search needs
 
 -- a struct that shows digits is those digits
-meant : {e : Meant.Digits} {d : Digits} → Shows e d → asMeant d ≡ e
+meant : {e : Meant.Numeral} {d : Digits} → Shows e d → asMeant d ≡ e
 meant s = ap₂ (λ (b : List ℕ) (u : ℕ). record { bytes = b; unused = u }) (s .bytes) (s .unused)
 
 -- what is shown are the digits of the magnitude
@@ -49,7 +49,7 @@ returns c =
     let s = c .before .before .before .before in
     let k = negative-is (s .args .n) (s .fits .n) (c .before .if1 .taken) in
     subst (λ (z : ℤ). Shows (signedDigitsOf z) (c .negative .result)) (sym (k .is))
-    (subst (λ (d : Meant.Digits). Shows (negated d) (c .negative .result))
+    (subst (λ (d : Meant.Numeral). Shows (negated d) (c .negative .result))
     (meant (shown (c .before .before)) ∙ ap (λ (z : ℤ). digitsOf (natAbs z)) (k .is)) (c .negative .ensures))
 
 returns-2 : tie.Need-returns-2

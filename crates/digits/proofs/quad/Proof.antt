@@ -2,6 +2,7 @@
 use mathlib.Core.Path.{_≡_, ap, _∙_}
 use mathlib.Core.List.{List, [], _∷_}
 use Prim.Native.Nat.{ℕ, _+_, _/_, _%_, _<_}
+use Prim.Native.Char.{code}
 use native.Mathlib.Numerals.{add-one, add-two, add-three}
 use native.Mathlib.Omega.{arith}
 use lib.ListN.{getD}
@@ -49,10 +50,10 @@ element-write-bytes-4 c = search needs
 four : (t o : List ℕ) (d : ℕ) → Follows tensDigit t → Follows onesDigit o → d < 10000 → getD t (d / 100) 0 ∷ getD o (d / 100) 0 ∷ getD t (d % 100) 0 ∷ getD o (d % 100) 0 ∷ [] ≡ padded 4 d
 unfolding padded
 four t o d ht ho h =
-    let a : getD t (d / 100) 0 ≡ 48 + d / 10 / 10 / 10 % 10 = ht .entry (d / 100) (omega arith) ∙ omega arith in
-    let b : getD o (d / 100) 0 ≡ 48 + d / 10 / 10 % 10 = ho .entry (d / 100) (omega arith) ∙ omega arith in
-    let e : getD t (d % 100) 0 ≡ 48 + d / 10 % 10 = ht .entry (d % 100) (omega arith) ∙ omega arith in
-    let f : getD o (d % 100) 0 ≡ 48 + d % 10 = ho .entry (d % 100) (omega arith) ∙ omega arith in
+    let a : getD t (d / 100) 0 ≡ code "0" + d / 10 / 10 / 10 % 10 = ht .entry (d / 100) (omega arith) ∙ omega arith in
+    let b : getD o (d / 100) 0 ≡ code "0" + d / 10 / 10 % 10 = ho .entry (d / 100) (omega arith) ∙ omega arith in
+    let e : getD t (d % 100) 0 ≡ code "0" + d / 10 % 10 = ht .entry (d % 100) (omega arith) ∙ omega arith in
+    let f : getD o (d % 100) 0 ≡ code "0" + d % 10 = ho .entry (d % 100) (omega arith) ∙ omega arith in
     cc
 
 returns : tie.Need-returns

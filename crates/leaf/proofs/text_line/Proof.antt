@@ -17,12 +17,12 @@ enum-told c = search needs
 returns : tie.Need-returns
 returns c =
     let e = c .before .before .before .before .before .args in
-    text-reads (e .s .now) (e .at) (e .kind) _ (sym (c .before .from .given .1) ∙ c .before .before .before .line .ensures)
+    text-reads (e .s .now) (e .c .at) (e .kind) _ (sym (c .before .from .given .1) ∙ c .before .before .before .line .ensures)
 
 returns-2 : tie.Need-returns-2
 returns-2 c =
     let e = c .before .before .before .before .args in
-    text-reads (e .s .now) (e .at) (e .kind) _ (sym (c .enum-told .given .1) ∙ c .before .before .line .ensures)
+    text-reads (e .s .now) (e .c .at) (e .kind) _ (sym (c .enum-told .given .1) ∙ c .before .before .line .ensures)
 
 pub text-line-spec : {M : Type 1} → statement M
 text-line-spec = tie.close (tie.spec line-requires enum-known-from enum-told returns returns-2)

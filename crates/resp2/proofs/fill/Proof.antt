@@ -1,88 +1,79 @@
--- `resp2::fill` meets its contract: the first walk is lent no word of the table, and the second writes what the first found.
+-- `resp2::fill` meets its contract: what stands of the first try, or two walks where it was for want of a row.
 use mathlib.Core.Path.{subst}
-use mathlib.Core.List.{[]}
+use mathlib.Core.List.{List}
+use Prim.Native.Nat.{ℕ}
+use Rattle.walk.specs.Tops.{Laid, Tried}
+use Rattle.resp2.specs.Tops.{arrayOut}
 use borrow.Author.Needs.{needs}
-use Rattle.meaning.specs.Kinds.{resp2}
-use Rattle.meaning.specs.Frames.{frameP, restP, holder}
-use Rattle.resp2.specs.Walks.{Walks}
-use Rattle.resp2.proofs.Tops.{filled, kept-refused, kept-unfinished}
 use Rattle.resp2.proofs.fill.Statement.{statement}
 use Rattle.resp2.proofs.fill.Tie as tie
 
-all2-requires : tie.Need-all2-requires
-all2-requires c κs = search needs
+few-requires : tie.Need-few-requires
+few-requires c κs = search needs
 
-slice-relend-prefix-array : tie.Need-slice-relend-prefix-array
-slice-relend-prefix-array c = search needs
-
-slice-aggregate-array : tie.Need-slice-aggregate-array
-slice-aggregate-array c = search needs
-
-array-requires : tie.Need-array-requires
-array-requires c κs = search needs
-
-enum-told : tie.Need-enum-told
-enum-told c = search needs
-
-array-requires-2 : tie.Need-array-requires-2
-array-requires-2 c κs = search needs
-
-as-answer-requires : tie.Need-as-answer-requires
-as-answer-requires c κs = search needs
+enum-known-p : tie.Need-enum-known-p
+enum-known-p c = search needs
 
 enum-known-k : tie.Need-enum-known-k
 enum-known-k c = search needs
 
-enum-told-2 : tie.Need-enum-told-2
-enum-told-2 c = search needs
+twice-requires : tie.Need-twice-requires
+twice-requires c κs = search needs
 
 same-length : tie.Need-same-length
 same-length c = search needs
 
 returns : tie.Need-returns
 returns c =
-    let e = c .before .before .before .before .before .before .before .before .before .before .before .before .before .before .before .before in
-    let f = c .before .before .before .before .before .before .before .before .before .before .array in
-    filled (e .args .n) (e .args .s .now) (e .args .t .now) (f .last .1 .0) (e .args .lim) (e .args .at) (e .pre .counted) (f .kept .1 .0) _ _
-    (subst (Walks (restP (frameP resp2 31) 0 (holder 13 (e .args .n))) (e .args .s .now) (e .args .lim) (e .args .at) 1 0 [] (f .last .1 .0)) (c .before .before .before .before .before .before .enum-told .given .1) (f .ensures))
-    (c .before .before .before .array2 .last .1 .0) (c .before .before .before .array2 .result) (c .as-answer .result) (c .before .before .before .array2 .ensures) (c .as-answer .ensures)
+    let e = c .before .before .before .before .before .before .before .before .before .before .before .before .before .before .args in
+    let f = c .before .before .before .before .before .before .before .before .before .before .few in
+    let same = (subst (Tried (arrayOut (e .depth) (e .n) (e .s .now) (e .lim) (e .c .at)) (e .t .now) (f .last .1 .0)) (c .before .before .before .before .before .before .k .given .1) (f .ensures)) .kept (c .before .before .before .before .if1 .taken) in
+    subst (λ (t : List ℕ). Laid (arrayOut (e .depth) (e .n) (e .s .now) (e .lim) (e .c .at)) t (c .before .before .twice .last .1 .0) (c .before .before .twice .result)) same (c .before .before .twice .ensures)
+
+enum-told : tie.Need-enum-told
+enum-told c = search needs
 
 same-length-2 : tie.Need-same-length-2
 same-length-2 c = search needs
 
 returns-2 : tie.Need-returns-2
 returns-2 c =
-    let e = c .before .before .before .before .before .before .before .before .before .before .before in
-    let f = c .before .before .before .before .before .array in
-    kept-refused (e .args .n) (e .args .s .now) (e .args .t .now) (f .last .1 .0) (e .args .lim) (e .args .at) (e .pre .counted) (f .kept .1 .0) _ _
-    (subst (Walks (restP (frameP resp2 31) 0 (holder 13 (e .args .n))) (e .args .s .now) (e .args .lim) (e .args .at) 1 0 [] (f .last .1 .0)) (c .before .k .given .1) (f .ensures))
+    let e = c .before .before .before .before .before .before .before .before .before .args in
+    let f = c .before .before .before .before .before .few in
+    (subst (Tried (arrayOut (e .depth) (e .n) (e .s .now) (e .lim) (e .c .at)) (e .t .now) (f .last .1 .0)) (c .before .p .given .1) (f .ensures)) .stands (λ x. x)
 
 same-length-3 : tie.Need-same-length-3
 same-length-3 c = search needs
 
 returns-3 : tie.Need-returns-3
 returns-3 c =
-    let e = c .before .before .before .before .before .before .before .before .before .before in
-    let f = c .before .before .before .before .array in
-    kept-unfinished (e .args .n) (e .args .s .now) (e .args .t .now) (f .last .1 .0) (e .args .lim) (e .args .at) (e .pre .counted) (f .kept .1 .0)
-    (subst (Walks (restP (frameP resp2 31) 0 (holder 13 (e .args .n))) (e .args .s .now) (e .args .lim) (e .args .at) 1 0 [] (f .last .1 .0)) (c .enum-told2 .given .1) (f .ensures))
+    let e = c .before .before .before .before .before .before .before .before .before .before .args in
+    let f = c .before .before .before .before .before .before .few in
+    (subst (Tried (arrayOut (e .depth) (e .n) (e .s .now) (e .lim) (e .c .at)) (e .t .now) (f .last .1 .0)) (c .before .before .k .given .1) (f .ensures)) .stands (c .if1 .left)
+
+same-length-4 : tie.Need-same-length-4
+same-length-4 c = search needs
+
+returns-4 : tie.Need-returns-4
+returns-4 c =
+    let e = c .before .before .before .before .before .before .before .before .args in
+    let f = c .before .before .before .before .few in
+    (subst (Tried (arrayOut (e .depth) (e .n) (e .s .now) (e .lim) (e .c .at)) (e .t .now) (f .last .1 .0)) (c .enum-told .given .1) (f .ensures)) .stands (λ x. x)
 
 pub fill-spec : {M : Type 1} → statement M
 fill-spec =
     tie.close
     (tie.spec
-    all2-requires
-    slice-relend-prefix-array
-    slice-aggregate-array
-    array-requires
-    enum-told
-    array-requires-2
-    as-answer-requires
+    few-requires
+    enum-known-p
     enum-known-k
-    enum-told-2
+    twice-requires
     same-length
     returns
+    enum-told
     same-length-2
     returns-2
     same-length-3
-    returns-3)
+    returns-3
+    same-length-4
+    returns-4)

@@ -1,50 +1,55 @@
--- `resp2::head::bulk_string` meets its contract: Null, or the bytes that its length line asks for.
-use mathlib.Core.Path.{sym, _∙_}
+-- `resp2::head::bulk_string` meets its contract, by the length's answer.
+use mathlib.Core.Path.{refl, subst, _∙_}
+use mathlib.Core.Bool.{false}
+use Rattle.meaning.specs.Kinds.{resp2, BlobString}
+use Rattle.meaning.specs.Frames.{bulkP}
+use Rattle.leaf.specs.Leaves.{Counts, count-within}
 use borrow.Author.Needs.{needs}
-use Rattle.resp2.proofs.Heads.{next-within, bulk-text, bulk-null, bulk-wrong, bulk-more}
 use Rattle.resp2.proofs.head.bulk_string.Statement.{statement}
 use Rattle.resp2.proofs.head.bulk_string.Tie as tie
 
-length-line-requires : tie.Need-length-line-requires
-length-line-requires c κs = search needs
+cast-length-head : tie.Need-cast-length-head
+cast-length-head c = search needs
+
+length-head-requires : tie.Need-length-head-requires
+length-head-requires c κs = search needs
 
 enum-known-n : tie.Need-enum-known-n
 enum-known-n c = search needs
 
+cast-bulk : tie.Need-cast-bulk
+cast-bulk c = search needs
+
 bulk-requires : tie.Need-bulk-requires
 bulk-requires c κs =
     let e = c .before .before .before .before .before in
-    next-within (e .args .s .now) (e .args .at) _ _ (e .pre) (sym (c .before .n .given .1) ∙ c .before .before .before .length-line .ensures)
+    let w = subst (Counts false BlobString (e .args .s .now) (e .args .c .at)) (c .before .n .given .1) (c .before .before .before .length-head .ensures) in
+    count-within false BlobString (e .args .s .now) (e .args .c .at) _ _ (e .pre) w
 
-enum-known-next : tie.Need-enum-known-next
-enum-known-next c = search needs
-
-enum-known-next-2 : tie.Need-enum-known-next-2
-enum-known-next-2 c = search needs
-
-enum-told : tie.Need-enum-told
-enum-told c = search needs
+enum-known-l : tie.Need-enum-known-l
+enum-known-l c = search needs
 
 returns : tie.Need-returns
 returns c =
     let e = c .before .before .before .before .before .before .args in
-    bulk-text (e .s .now) (e .at) _ _ _ (sym (c .before .before .n .given .1) ∙ c .before .before .before .before .length-line .ensures) (c .bulk .ensures)
+    let w = subst (Counts false BlobString (e .s .now) (e .c .at)) (c .before .before .n .given .1) (c .before .before .before .before .length-head .ensures) in
+    record { means = λ lim used. w .means resp2 refl (bulkP resp2 BlobString) lim used ∙ c .bulk .ensures resp2 .means lim used }
 
 returns-2 : tie.Need-returns-2
 returns-2 c =
     let e = c .before .before .before .before .before .args in
-    bulk-null (e .s .now) (e .at) _ (sym (c .before .next .given .1) ∙ c .before .before .before .length-line .ensures)
-
-returns-3 : tie.Need-returns-3
-returns-3 c =
-    let e = c .before .before .before .before .before .args in
-    bulk-wrong (e .s .now) (e .at) _ (sym (c .before .next2 .given .1) ∙ c .before .before .before .length-line .ensures)
-
-returns-4 : tie.Need-returns-4
-returns-4 c =
-    let e = c .before .before .before .before .args in
-    bulk-more (e .s .now) (e .at) (sym (c .enum-told .given .1) ∙ c .before .before .length-line .ensures)
+    let w = subst (Counts false BlobString (e .s .now) (e .c .at)) (c .before .l .given .1) (c .before .before .before .length-head .ensures) in
+    record { means = w .means resp2 refl (bulkP resp2 BlobString) }
 
 pub bulk-string-spec : {M : Type 1} → statement M
 bulk-string-spec =
-    tie.close (tie.spec length-line-requires enum-known-n bulk-requires enum-known-next enum-known-next-2 enum-told returns returns-2 returns-3 returns-4)
+    tie.close
+    (tie.spec
+    cast-length-head
+    length-head-requires
+    enum-known-n
+    cast-bulk
+    bulk-requires
+    enum-known-l
+    returns
+    returns-2)

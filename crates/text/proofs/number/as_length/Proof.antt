@@ -1,7 +1,7 @@
 -- `text::number::as_length` meets its contract.
 use mathlib.Core.Path.{sym, ap}
 use borrow.Author.Needs.{needs}
-use Rattle.text.specs.Numbers.{below64D}
+use Rattle.text.specs.Numbers.{lengthW}
 use Rattle.text.proofs.number.as_length.Statement.{statement}
 use Rattle.text.proofs.number.as_length.Tie as tie
 
@@ -12,7 +12,7 @@ enum-told : tie.Need-enum-told
 enum-told c = search needs
 
 returns : tie.Need-returns
-returns c = sym (ap below64D (c .before .d .given .1))
+returns c = sym (ap lengthW (c .before .d .given .1))
 
 returns-2 : tie.Need-returns-2
 returns-2 c = search needs

@@ -1,7 +1,7 @@
 -- `text::number::length_said` meets its contract.
 use mathlib.Core.Path.{sym, ap}
 use borrow.Author.Needs.{needs}
-use Rattle.text.specs.Numbers.{lengthLineOf}
+use Rattle.text.specs.Numbers.{lengthSaid}
 use Rattle.text.proofs.number.length_said.Statement.{statement}
 use Rattle.text.proofs.number.length_said.Tie as tie
 
@@ -15,13 +15,13 @@ enum-told-2 : tie.Need-enum-told-2
 enum-told-2 c = search needs
 
 returns : tie.Need-returns
-returns c = sym (ap (lengthLineOf (c .before .before .before .args .next)) (c .before .n .given .1))
+returns c = sym (ap (lengthSaid (c .before .before .before .args .c)) (c .before .n .given .1))
 
 returns-2 : tie.Need-returns-2
-returns-2 c = sym (ap (lengthLineOf (c .before .before .args .next)) (c .enum-told .given .1))
+returns-2 c = sym (ap (lengthSaid (c .before .before .args .c)) (c .enum-told .given .1))
 
 returns-3 : tie.Need-returns-3
-returns-3 c = sym (ap (lengthLineOf (c .before .before .args .next)) (c .enum-told2 .given .1))
+returns-3 c = sym (ap (lengthSaid (c .before .before .args .c)) (c .enum-told2 .given .1))
 
 pub length-said-spec : {M : Type 1} → statement M
 length-said-spec =

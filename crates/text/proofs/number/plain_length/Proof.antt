@@ -2,7 +2,7 @@
 use mathlib.Core.Path.{ap, _∙_}
 use native.Mathlib.Omega.{arith}
 use borrow.Author.Needs.{needs}
-use Rattle.text.specs.Numbers.{below64D}
+use Rattle.text.specs.Numbers.{lengthW}
 use Rattle.text.proofs.Numbers.{plain-none, plain-plus, plain-bare}
 use Rattle.text.proofs.number.plain_length.Statement.{statement}
 use Rattle.text.proofs.number.plain_length.Tie as tie
@@ -25,7 +25,7 @@ as-length-requires c κs = search needs
 returns-2 : tie.Need-returns-2
 returns-2 c =
     let e = c .before .before .before .before .before .before .args in
-    c .as-length .ensures ∙ ap below64D (c .before .magnitude .ensures) ∙ plain-plus (e .s .now) (e .from) (e .to) (omega arith) (omega arith) (c .before .before .if2 .taken)
+    c .as-length .ensures ∙ ap lengthW (c .before .magnitude .ensures) ∙ plain-plus (e .s .now) (e .from) (e .to) (omega arith) (omega arith) (c .before .before .if2 .taken)
 
 magnitude-requires-2 : tie.Need-magnitude-requires-2
 magnitude-requires-2 c κs = search needs
@@ -36,7 +36,7 @@ as-length-requires-2 c κs = search needs
 returns-3 : tie.Need-returns-3
 returns-3 c =
     let e = c .before .before .before .before .before .before .args in
-    c .as-length2 .ensures ∙ ap below64D (c .before .magnitude2 .ensures) ∙ plain-bare (e .s .now) (e .from) (e .to) (omega arith) (omega arith) (c .before .before .if2 .left)
+    c .as-length2 .ensures ∙ ap lengthW (c .before .magnitude2 .ensures) ∙ plain-bare (e .s .now) (e .from) (e .to) (omega arith) (omega arith) (c .before .before .if2 .left)
 
 pub plain-length-spec : {M : Type 1} → statement M
 plain-length-spec =

@@ -4,6 +4,7 @@ use mathlib.Core.Bool.{Bool, true, false, _||_}
 use Prim.Native.Nat.{ℕ, _+_, _-_, _≤_}
 use native.Mathlib.Omega.{arith}
 use borrow.Author.Tests.{eqb-false}
+use Rattle.meaning.specs.Demand.{CR}
 use Rattle.text.specs.Lines.{Clear}
 use Rattle.text.proofs.Lines.{clear-none, clear-more}
 use Rattle.text.proofs.scan.block_has_cr.Statement.{statement}
@@ -14,7 +15,7 @@ neither true b e = let z : _≡_ {A = ℕ} 0 1 = cc in absurd (omega arith)
 neither false b e = (refl, e)
 
 abbrev Inv-loop : tie.InvT-loop
-Inv-loop s i hit₀ k₀ hit k = (k ≤ 128) × (hit ≡ false → Clear s i (i + k))
+Inv-loop s i hit₀ k₀ hit k = (k ≤ 128) × (hit ≡ false → Clear CR s i (i + k))
 
 abbrev μ-loop : tie.MeasureT-loop
 μ-loop s i hit₀ k₀ hit k = 128 - k
@@ -46,7 +47,7 @@ returns c t =
     let at = c .before in
     let e = at .before .args in
     let q : e .i + at .loop .k ≡ e .i + 128 = omega arith in
-    subst (λ (n : ℕ). Clear (e .s .now) (e .i) n) q (at .loop .inv .1 t)
+    subst (λ (n : ℕ). Clear CR (e .s .now) (e .i) n) q (at .loop .inv .1 t)
 
 pub block-has-cr-spec : {M : Type 1} → statement M
 block-has-cr-spec =

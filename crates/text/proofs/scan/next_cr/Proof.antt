@@ -8,36 +8,36 @@ use Rattle.text.proofs.scan.next_cr.Tie as tie
 sub-if1 : tie.Need-sub-if1
 sub-if1 c = search needs
 
-cr-before-requires : tie.Need-cr-before-requires
-cr-before-requires c κs = search needs
+find-requires : tie.Need-find-requires
+find-requires c κs = search needs
 
 returns : tie.Need-returns
 returns c = search needs
 
-add-cr-before : tie.Need-add-cr-before
-add-cr-before c = search needs
+add-find : tie.Need-add-find
+add-find c = search needs
 
-cr-before-requires-2 : tie.Need-cr-before-requires-2
-cr-before-requires-2 c κs = search needs
+find-requires-2 : tie.Need-find-requires-2
+find-requires-2 c κs = search needs
 
 add-if2 : tie.Need-add-if2
 add-if2 c = search needs
 
 returns-2 : tie.Need-returns-2
 returns-2 c =
-    let r = c .before .cr-before2 .ensures in
+    let r = c .before .find2 .ensures in
     record { clear = r .clear; within = omega arith; there = λ l. r .there (c .if2 .taken) }
 
 past-blocks-requires : tie.Need-past-blocks-requires
 past-blocks-requires c κs = search needs
 
-cr-before-requires-3 : tie.Need-cr-before-requires-3
-cr-before-requires-3 c κs = search needs
+find-requires-3 : tie.Need-find-requires-3
+find-requires-3 c κs = search needs
 
 returns-3 : tie.Need-returns-3
 returns-3 c =
-    let near = c .before .before .before .cr-before2 .ensures in
-    let r = c .cr-before3 .ensures in
+    let near = c .before .before .before .find2 .ensures in
+    let r = c .find3 .ensures in
     record {
       clear = clear-join _ _ _ _ (near .clear) (clear-join _ _ _ _ (c .before .past-blocks .ensures .0) (r .clear));
       within = r .within;
@@ -49,12 +49,12 @@ next-cr-spec =
     tie.close
     (tie.spec
     sub-if1
-    cr-before-requires
+    find-requires
     returns
-    add-cr-before
-    cr-before-requires-2
+    add-find
+    find-requires-2
     add-if2
     returns-2
     past-blocks-requires
-    cr-before-requires-3
+    find-requires-3
     returns-3)

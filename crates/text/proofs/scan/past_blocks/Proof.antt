@@ -3,13 +3,14 @@ use mathlib.Core.Path.{refl}
 use Prim.Native.Nat.{_≤_, _-_}
 use native.Mathlib.Omega.{arith}
 use lib.ListN.{length}
+use Rattle.meaning.specs.Demand.{CR}
 use Rattle.text.specs.Lines.{Clear}
 use Rattle.text.proofs.Lines.{clear-none, clear-join}
 use Rattle.text.proofs.scan.past_blocks.Statement.{statement}
 use Rattle.text.proofs.scan.past_blocks.Tie as tie
 
 abbrev Inv-loop : tie.InvT-loop
-Inv-loop s from i₀ i = Clear s from i × (i ≤ length s)
+Inv-loop s from i₀ i = Clear CR s from i × (i ≤ length s)
 
 abbrev μ-loop : tie.MeasureT-loop
 μ-loop s from i₀ i = length s - i

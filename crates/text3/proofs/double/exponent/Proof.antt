@@ -27,16 +27,16 @@ all-digits-requires c κs = search needs
 
 returns-2 : tie.Need-returns-2
 returns-2 c =
-    let e = c .before .before .before .before .before .before .before .args in
-    let t = sym (c .before .before .before .is-e .ensures) ∙ c .before .before .if2 .taken in
+    let sign = c .before in let begun = sign .before in let at = begun .before in let e = at .before .before .before .before .args in
+    let t = sym (at .is-e .ensures) ∙ begun .if2 .taken in
     c .all-digits .ensures
-    ∙ ap allDigits (c .before .after-sign .ensures .rest)
+    ∙ ap allDigits (sign .after-sign .ensures .rest)
     ∙ sym (exponent-at (e .s .now) (e .from) (e .to) (omega arith) (omega arith) ∙ rw t)
 
 returns-3 : tie.Need-returns-3
 returns-3 c =
-    let e = c .before .before .before .before .before .args in
-    let t = sym (c .before .is-e .ensures) ∙ c .if2 .left in
+    let at = c .before in let e = at .before .before .before .before .args in
+    let t = sym (at .is-e .ensures) ∙ c .if2 .left in
     sym (exponent-at (e .s .now) (e .from) (e .to) (omega arith) (omega arith) ∙ rw t)
 
 pub exponent-spec : {M : Type 1} → statement M

@@ -25,12 +25,10 @@ exponent-requires c κs = search needs
 
 returns-2 : tie.Need-returns-2
 returns-2 c =
-    let e = c .before .before .before .before .before .before .before .args in
-    let d = c .before .before .after-digits .ensures in
+    let d = c .before .before in let dot = d .before in let e = dot .before .before .before .before .args in
     c .exponent .ensures
-    ∙ ap exponent (d .0 .rest)
-    ∙ sym
-    (fraction-dot (e .s .now) (e .from) (e .to) (omega arith) (omega arith) (e .whole) (c .before .before .before .if2 .taken) ∙ rw (c .before .if3 .taken))
+    ∙ ap exponent (d .after-digits .ensures .0 .rest)
+    ∙ sym (fraction-dot (e .s .now) (e .from) (e .to) (omega arith) (omega arith) (e .whole) (dot .if2 .taken) ∙ rw (c .before .if3 .taken))
 
 add-if4 : tie.Need-add-if4
 add-if4 c = search needs
@@ -40,36 +38,33 @@ exponent-requires-2 c κs = search needs
 
 returns-3 : tie.Need-returns-3
 returns-3 c =
-    let e = c .before .before .before .before .before .before .before .before .args in
-    let d = c .before .before .before .after-digits .ensures in
+    let none = c .before .before in let d = none .before in let dot = d .before in let e = dot .before .before .before .before .args in
     c .exponent2 .ensures
-    ∙ ap exponent (d .0 .rest)
+    ∙ ap exponent (d .after-digits .ensures .0 .rest)
     ∙ sym
-    (fraction-dot (e .s .now) (e .from) (e .to) (omega arith) (omega arith) (e .whole) (c .before .before .before .before .if2 .taken)
-    ∙ rw (c .before .before .if3 .left, ← d .1, lt-ltb _ _ (c .before .if4 .taken)))
+    (fraction-dot (e .s .now) (e .from) (e .to) (omega arith) (omega arith) (e .whole) (dot .if2 .taken)
+    ∙ rw (none .if3 .left, ← d .after-digits .ensures .1, lt-ltb _ _ (c .before .if4 .taken)))
 
 returns-4 : tie.Need-returns-4
 returns-4 c =
-    let e = c .before .before .before .before .before .before .before .args in
-    let d = c .before .before .after-digits .ensures in
+    let none = c .before in let d = none .before in let dot = d .before in let e = dot .before .before .before .before .args in
     sym
-    (fraction-dot (e .s .now) (e .from) (e .to) (omega arith) (omega arith) (e .whole) (c .before .before .before .if2 .taken)
-    ∙ rw (c .before .if3 .left, ← d .1, le-ltb _ _ (c .if4 .left)))
+    (fraction-dot (e .s .now) (e .from) (e .to) (omega arith) (omega arith) (e .whole) (dot .if2 .taken)
+    ∙ rw (none .if3 .left, ← d .after-digits .ensures .1, le-ltb _ _ (c .if4 .left)))
 
 exponent-requires-3 : tie.Need-exponent-requires-3
 exponent-requires-3 c κs = search needs
 
 returns-5 : tie.Need-returns-5
 returns-5 c =
-    let e = c .before .before .before .before .before .before .args in
+    let plain = c .before .before in let e = plain .before .before .before .before .args in
     c .exponent3 .ensures
-    ∙ sym
-    (fraction-plain (e .s .now) (e .from) (e .to) (omega arith) (omega arith) (e .whole) (c .before .before .if2 .left) ∙ rw (c .before .if5 .taken))
+    ∙ sym (fraction-plain (e .s .now) (e .from) (e .to) (omega arith) (omega arith) (e .whole) (plain .if2 .left) ∙ rw (c .before .if5 .taken))
 
 returns-6 : tie.Need-returns-6
 returns-6 c =
-    let e = c .before .before .before .before .before .args in
-    sym (fraction-plain (e .s .now) (e .from) (e .to) (omega arith) (omega arith) (e .whole) (c .before .if2 .left) ∙ rw (c .if5 .left))
+    let plain = c .before in let e = plain .before .before .before .before .args in
+    sym (fraction-plain (e .s .now) (e .from) (e .to) (omega arith) (omega arith) (e .whole) (plain .if2 .left) ∙ rw (c .if5 .left))
 
 pub fraction-spec : {M : Type 1} → statement M
 fraction-spec =

@@ -13,11 +13,11 @@ names-requires c κs = search needs
 returns : tie.Need-returns
 returns c = let e = c .before .before .before .args in options-named (e .v) (e .from) _ (sym (c .before .names .ensures) ∙ c .if1 .taken)
 
-part-end-requires : tie.Need-part-end-requires
-part-end-requires c κs = search needs
+find-requires : tie.Need-find-requires
+find-requires c κs = search needs
 
 returns-2 : tie.Need-returns-2
-returns-2 c = options-none (c .before .before .before .before .before .args .v) (omega arith) (c .before .part-end .ensures) (c .if2 .taken)
+returns-2 c = options-none (c .before .before .before .before .before .args .v) (omega arith) (c .before .find .ensures) (c .if2 .taken)
 
 slice-aggregate-is-text : tie.Need-slice-aggregate-is-text
 slice-aggregate-is-text c = search needs
@@ -35,7 +35,7 @@ returns-3 : tie.Need-returns-3
 unfolding codes
 returns-3 c =
     let two = c .before .before .before .before in let one = two .before .before in
-    options-auth (one .before .before .before .args .v) (omega arith) (two .before .part-end .ensures) (two .if2 .left) (c .before .before .is-text .ensures)
+    options-auth (one .before .before .before .args .v) (omega arith) (two .before .find .ensures) (two .if2 .left) (c .before .before .is-text .ensures)
     (sym (one .before .names .ensures) ∙ one .if1 .left)
     (c .before .if3 .taken)
     (c .auth .ensures)
@@ -44,7 +44,7 @@ returns-4 : tie.Need-returns-4
 unfolding codes
 returns-4 c =
     let two = c .before .before .before in let one = two .before .before in
-    options-other (one .before .before .before .args .v) (omega arith) (two .before .part-end .ensures) (two .if2 .left) (c .before .is-text .ensures)
+    options-other (one .before .before .before .args .v) (omega arith) (two .before .find .ensures) (two .if2 .left) (c .before .is-text .ensures)
     (sym (one .before .names .ensures) ∙ one .if1 .left)
     (c .if3 .left)
 
@@ -54,7 +54,7 @@ options-spec =
     (tie.spec
     names-requires
     returns
-    part-end-requires
+    find-requires
     returns-2
     slice-aggregate-is-text
     is-text-requires

@@ -1,0 +1,110 @@
+-- What the promise of a decode call gives, in the numbers that it tells: answers that stay, and bounds. Proved of every decoder's promise in `answers`.
+use mathlib.Core.Path.{_≡_, refl, sym, ap, subst, _∙_}
+use mathlib.Core.List.{List, _++_}
+use mathlib.Core.Logic.{_⊎_, inl, inr}
+use Prim.Native.Nat.{ℕ, _+_, _*_, _≤_, _<_}
+use native.Mathlib.Omega.{arith}
+use lib.ListN.{length, take, drop}
+use Rattle.meaning.specs.Kinds.{Profile}
+use Rattle.meaning.specs.Rows.{rowWidth, rowsIn}
+use Rattle.meaning.specs.Frames.{depthLimit}
+use Rattle.answers.specs.Answers.{answerOf, meant, Decoded, toldOf}
+use Rattle.answers.specs.Theorems as Every
+use Rattle.answers.specs.Theorems.{Took, rowsOf}
+use Rattle.answers.specs.declared.Answer.{Answer}
+use Rattle.answers.specs.declared.Answer.the-variants.{Frame, Marker, Refused, Unfinished}
+use Rattle.answers.specs.declared.Told.{Told}
+use Rattle.imrazgul.specs.Calls.{DecodeCall}
+
+-- a frame or a marker
+abbrev pub IsFrame : Told → Type 0
+IsFrame r = (r .answer ≡ 1) ⊎ (r .answer ≡ 2)
+
+abbrev pub IsRefusal : ℕ → Told → Type 0
+IsRefusal k r = (r .answer ≡ 3) × (r .refusal ≡ k)
+
+took : (a : Answer) → IsFrame (toldOf a) → Took (toldOf a .consumed) a
+took (Frame n u) h = refl
+took (Marker n u) h = refl
+took (Refused k) (inl e) = absurd (omega arith)
+took (Refused k) (inr e) = absurd (omega arith)
+took Unfinished (inl e) = absurd (omega arith)
+took Unfinished (inr e) = absurd (omega arith)
+
+rows : (a : Answer) → toldOf a .rows ≡ rowsOf a
+rows (Frame n u) = refl
+rows (Marker n u) = refl
+rows (Refused k) = refl
+rows Unfinished = refl
+
+refused : (k : ℕ) (a : Answer) → IsRefusal k (toldOf a) → a ≡ Refused k
+refused k (Frame n u) h = absurd (omega (arith, h .0))
+refused k (Marker n u) h = absurd (omega (arith, h .0))
+refused k (Refused j) h = ap Refused (h .1)
+refused k Unfinished h = absurd (omega (arith, h .0))
+
+-- ---- of a call on s, from a place of it, with a table that held t₀: it told r
+
+module _ (π : Profile) (s : List ℕ) (at : ℕ) (inside : at ≤ length s) (t₀ t₁ : List ℕ) (r : Told) (w : DecodeCall π s at t₀ t₁ r) where
+  said : Answer
+  said = answerOf (meant π depthLimit s at t₀)
+
+  decodes : Decoded π depthLimit s at t₀ t₁ said
+  unfolding said
+  decodes = record { says = refl; leaves = w .leaves }
+
+  takes : IsFrame r → Took (r .consumed) said
+  unfolding said
+  takes h = subst (λ (x : Told). IsFrame x → Took (x .consumed) said) (sym (w .says)) (took said) h
+
+  spans : r .rows ≡ rowsOf said
+  unfolding said
+  spans = ap (λ (x : Told). x .rows) (w .says) ∙ rows said
+
+  -- A frame or marker lies in the buffer, and its rows in the table.
+  pub frame-within : IsFrame r → (at + r .consumed ≤ length s) × (r .rows ≤ rowsIn (length t₀))
+  frame-within h =
+      let b = Every.frame-within π depthLimit s at inside t₀ t₁ said decodes (r .consumed) (takes h) in
+      (b .0, omega (arith, b .1, spans))
+
+  -- Words past its rows stay; where there are no rows, all do.
+  pub rest-stays : drop (rowWidth * r .rows) t₁ ≡ drop (rowWidth * r .rows) t₀
+  rest-stays = rw spans (Every.rest-stays π depthLimit s at inside t₀ t₁ said decodes)
+
+  module _ (u₀ u₁ : List ℕ) (q : Told) where
+    other : (x : List ℕ) → DecodeCall π x at u₀ u₁ q → Decoded π depthLimit x at u₀ u₁ (answerOf (meant π depthLimit x at u₀))
+    other x e = record { says = refl; leaves = e .leaves }
+
+    -- The frame's bytes, followed by any, in a table of as many rows or more, give the same numbers and the same rows.
+    pub frame-larger : (x : List ℕ) → rowsIn (length t₀) ≤ rowsIn (length u₀) → IsFrame r → DecodeCall π (take (at + r .consumed) s ++ x) at u₀ u₁ q
+        → (q ≡ r) × (take (rowWidth * r .rows) t₁ ≡ take (rowWidth * r .rows) u₁)
+    unfolding said
+    frame-larger x larger h e =
+        let b = Every.frame-larger π depthLimit s at inside t₀ t₁ said decodes u₀ u₁ (answerOf (meant π depthLimit (take (at + r .consumed) s ++ x) at u₀)) x (r .consumed) larger (takes h) (other _ e) in
+        (e .says ∙ ap toldOf (b .0) ∙ sym (w .says), rw spans (b .1))
+
+    -- Fewer bytes, in a table of as many rows, are unfinished and leave the table.
+    pub frame-least : (m : ℕ) → rowsIn (length u₀) ≡ rowsIn (length t₀) → IsFrame r → m < r .consumed → DecodeCall π (take (at + m) s) at u₀ u₁ q
+        → (q ≡ toldOf Unfinished) × (u₁ ≡ u₀)
+    frame-least m even h l e =
+        let b = Every.frame-least π depthLimit s at inside t₀ t₁ said decodes u₀ u₁ (answerOf (meant π depthLimit (take (at + m) s) at u₀)) (r .consumed) m even (takes h) l (other _ e) in
+        (e .says ∙ ap toldOf (b .0), b .1)
+
+    module _ (x : List ℕ) (k : ℕ) (is : IsRefusal k r) (e : DecodeCall π (s ++ x) at u₀ u₁ q) where
+      refuses : said ≡ Refused k
+      unfolding said
+      refuses = refused k said (subst (IsRefusal k) (w .says) is)
+
+      -- A refusal stays the same under any later bytes, in a table of as many rows ..
+      pub refusal-later : rowsIn (length u₀) ≡ rowsIn (length t₀) → (q ≡ r) × (u₁ ≡ u₀)
+      unfolding said
+      refusal-later even =
+          let b = Every.refusal-later π depthLimit s at inside t₀ t₁ said decodes u₀ u₁ (answerOf (meant π depthLimit (s ++ x) at u₀)) x k refuses (other _ e) even in
+          (e .says ∙ ap toldOf (b .0) ∙ sym (w .says), b .1)
+
+      -- .. and of more, unless it was for want of one.
+      pub refusal-larger : rowsIn (length t₀) ≤ rowsIn (length u₀) → (k ≡ 11 → ⊥) → (q ≡ r) × (u₁ ≡ u₀)
+      unfolding said
+      refusal-larger larger roomy =
+          let b = Every.refusal-larger π depthLimit s at inside t₀ t₁ said decodes u₀ u₁ (answerOf (meant π depthLimit (s ++ x) at u₀)) x k refuses (other _ e) larger roomy in
+          (e .says ∙ ap toldOf (b .0) ∙ sym (w .says), b .1)

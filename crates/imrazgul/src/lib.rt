@@ -1,0 +1,35 @@
+// The calls that C and Rust link: each is thin, and asks nothing of its caller.
+use answers::Told;
+ghost use Rattle.meaning.specs.Kinds.{resp2};
+ghost use Rattle.meaning.specs.Digits.{digitsOf, signedDigitsOf};
+ghost use Rattle.imrazgul.specs.Calls.{DecodeCall, DigitsCall};
+
+// RESP2: one frame from the front of src, its rows in table.
+#[no_mangle]
+pub extern "C" fn imrazgul_resp2_decode(src: &[u8], table: &mut [u64]) -> Told
+    ensures { λ r. ⌜ DecodeCall resp2 (now (src .entry)) 0 (now (table .entry)) (now (table .exit)) r ⌝ }
+{
+    answers::numbers_of(resp2::decode(src, table))
+}
+
+// The digits of n in 20 bytes; gives how many of them are unused.
+#[no_mangle]
+pub extern "C" fn imrazgul_u64_digits(n: u64, bytes: &mut [u8; 20]) -> u64
+    ensures { λ r. ⌜ DigitsCall (digitsOf n) (now (bytes .exit)) r ⌝ }
+{
+    let d = digits::u64_to_digits(n);
+    let b = d.bytes;
+    *bytes = b;
+    d.unused as u64
+}
+
+// The same of a signed number.
+#[no_mangle]
+pub extern "C" fn imrazgul_i64_digits(n: i64, bytes: &mut [u8; 20]) -> u64
+    ensures { λ r. ⌜ DigitsCall (signedDigitsOf n) (now (bytes .exit)) r ⌝ }
+{
+    let d = digits::i64_to_digits(n);
+    let b = d.bytes;
+    *bytes = b;
+    d.unused as u64
+}

@@ -1,0 +1,17 @@
+-- What the constants hold.
+use mathlib.Core.Path.{_≡_}
+use mathlib.Core.List.{List, []}
+use Prim.Native.Nat.{ℕ, _<_}
+use lib.ListN.{length, getD}
+use Rattle.meaning.specs.Kinds.{Profile, kindOf, column}
+
+-- an entry for each byte: its kind
+pub record IsKinds (π : Profile) (entries : List ℕ) : Type 0 where
+  pub size : length entries ≡ 256
+  pub at : (b : ℕ) → b < 256 → getD entries b 0 ≡ kindOf π b
+
+-- a row for each kind: its three columns
+pub record IsColumns (rows : List (List ℕ)) : Type 0 where
+  pub size : length rows ≡ 23
+  pub width : (k : ℕ) → k < 23 → length (getD rows k []) ≡ 3
+  pub at : (k c : ℕ) → k < 23 → c < 3 → getD (getD rows k []) c 0 ≡ column k c

@@ -1,0 +1,100 @@
+-- `resp2::decode_at` meets its contract: no depth, no row, no byte, or a frame by its type byte.
+use mathlib.Core.Path.{_≡_, refl, sym, ap, subst, _∙_}
+use Prim.Native.Nat.{ℕ, _+_, _-_}
+use native.Mathlib.Omega.{arith}
+use lib.ListN.{length}
+use Rattle.meaning.specs.Prog.{run}
+use Rattle.meaning.specs.Kinds.{resp2, kindOf}
+use Rattle.meaning.specs.Rows.{rowsIn}
+use Rattle.text.specs.declared.Cursor.{Cursor}
+use Rattle.text.proofs.Moves.{taken-to, taken-more}
+use Rattle.walk.specs.Tops.{Laid}
+use Rattle.walk.proofs.Top.{behind, decoded}
+use Rattle.resp2.specs.Tops.{topP}
+use Rattle.resp2.proofs.Tops.{too-deep, no-row, no-byte, a-frame}
+use borrow.Author.Needs.{needs}
+use Rattle.resp2.proofs.decode_at.Statement.{statement}
+use Rattle.resp2.proofs.decode_at.Tie as tie
+
+returns : tie.Need-returns
+returns c =
+    let e = c .before .before .before .args in
+    decoded resp2 (e .depth) (e .s .now) (e .at) (e .t .now) _ (rowsIn (length (e .t .now))) refl (too-deep (e .depth) (e .s .now) _ (e .at) _ (c .if1 .taken)) refl
+
+rows-of-requires : tie.Need-rows-of-requires
+rows-of-requires c κs = search needs
+
+returns-2 : tie.Need-returns-2
+returns-2 c =
+    let e = c .before .before .before .before .before .args in
+    decoded resp2 (e .depth) (e .s .now) (e .at) (e .t .now) _ _ (c .before .rows-of .ensures) (no-row (e .depth) (e .s .now) _ (e .at) (c .before .before .if1 .left) _ (c .if2 .taken)) refl
+
+all2-requires : tie.Need-all2-requires
+all2-requires c κs = search needs
+
+byte-requires : tie.Need-byte-requires
+byte-requires c κs = search needs
+
+enum-known-b : tie.Need-enum-known-b
+enum-known-b c = search needs
+
+kind-at-requires : tie.Need-kind-at-requires
+kind-at-requires c κs = search needs
+
+sub-top : tie.Need-sub-top
+sub-top c = search needs
+
+top-requires : tie.Need-top-requires
+top-requires c κs =
+    let e = c .before .before .before .before .before .before .before .before .before .before .before .before .before .before .args in
+    let w = taken-to (e .s .now) (e .at) (c .before .before .before .before .before .b .given .0 .0) (c .before .before .before .before .before .b .given .0 .1 .0) (sym (c .before .before .before .before .before .b .given .1) ∙ c .before .before .before .before .before .before .before .byte .ensures) in
+    let p : c .before .before .before .before .before .b .given .0 .1 .0 .at ≡ e .at + 1 = ap (λ (x : Cursor). x .at) (w .to) in
+    record { within = omega (arith, w .there, p); counted = c .before .before .before .before .before .before .before .before .before .before .rows-of .ensures; one = omega (arith, c .before .before .before .before .before .before .before .before .before .if2 .left); lent = c .before .before .before .before .before .before .before .before .all2 .ensures }
+
+answer-requires : tie.Need-answer-requires
+answer-requires c κs =
+    let e = c .before .before .before .before .before .before .before .before .before .before .before .before .before .before .before .before .before .args in
+    let w = taken-to (e .s .now) (e .at) (c .before .before .before .before .before .before .before .before .b .given .0 .0) (c .before .before .before .before .before .before .before .before .b .given .0 .1 .0) (sym (c .before .before .before .before .before .before .before .before .b .given .1) ∙ c .before .before .before .before .before .before .before .before .before .before .byte .ensures) in
+    let p : c .before .before .before .before .before .before .before .before .b .given .0 .1 .0 .at ≡ e .at + 1 = ap (λ (x : Cursor). x .at) (w .to) in
+    behind (topP (e .depth - 1) (c .before .before .before .before .before .kind-at .result)) (e .s .now) (c .before .before .before .before .before .before .before .before .before .before .before .before .before .rows-of .result) (e .at) (c .before .before .before .before .before .before .before .before .b .given .0 .1 .0 .at) 1 (omega (arith, p)) (omega (arith, w .there, p)) (omega (arith, c .before .before .before .before .before .before .before .before .before .before .before .before .if2 .left)) (c .before .before .top .ensures .says)
+
+enum-told : tie.Need-enum-told
+enum-told c = search needs
+
+same-length : tie.Need-same-length
+same-length c = search needs
+
+returns-3 : tie.Need-returns-3
+returns-3 c =
+    let e = c .before .before .before .before .before .before .before .before .before .before .before .before .before .before .before .before .before .before .args in
+    let w = taken-to (e .s .now) (e .at) (c .before .before .before .before .before .before .before .before .before .b .given .0 .0) (c .before .before .before .before .before .before .before .before .before .b .given .0 .1 .0) (sym (c .before .before .before .before .before .before .before .before .before .b .given .1) ∙ c .before .before .before .before .before .before .before .before .before .before .before .byte .ensures) in
+    let p : c .before .before .before .before .before .before .before .before .before .b .given .0 .1 .0 .at ≡ e .at + 1 = ap (λ (x : Cursor). x .at) (w .to) in
+    decoded resp2 (e .depth) (e .s .now) (e .at) (e .t .now) _ (c .before .before .before .before .before .before .before .before .before .before .before .before .before .before .rows-of .result) (c .before .before .before .before .before .before .before .before .before .before .before .before .before .before .rows-of .ensures)
+    (a-frame (e .depth) (e .s .now) (c .before .before .before .before .before .before .before .before .before .before .before .before .before .before .rows-of .result) (e .at) (c .before .before .before .before .before .before .before .before .before .before .before .before .before .before .before .if1 .left) (omega (arith, c .before .before .before .before .before .before .before .before .before .before .before .before .before .if2 .left)) (w .there) (c .before .before .before .before .before .before .kind-at .ensures resp2 (c .before .before .before .before .before .before .before .before .before .before .before .before .all2 .ensures) ∙ ap (kindOf resp2) (w .byte))
+    (subst (λ (x : ℕ). Laid (run (topP (e .depth - 1) (c .before .before .before .before .before .before .kind-at .result)) (e .s .now) (c .before .before .before .before .before .before .before .before .before .before .before .before .before .before .rows-of .result) x 1) (e .t .now) (c .before .before .before .top .last .1 .0) (c .before .before .before .top .result)) p (c .before .before .before .top .ensures)))
+    (c .answer .ensures)
+
+returns-4 : tie.Need-returns-4
+returns-4 c =
+    let e = c .before .before .before .before .before .before .before .before .before .args in
+    decoded resp2 (e .depth) (e .s .now) (e .at) (e .t .now) _ (c .before .before .before .before .before .rows-of .result) (c .before .before .before .before .before .rows-of .ensures)
+    (no-byte (e .depth) (e .s .now) (c .before .before .before .before .before .rows-of .result) (e .at) (c .before .before .before .before .before .before .if1 .left) (omega (arith, c .before .before .before .before .if2 .left)) _ (taken-more (e .s .now) (e .at) (sym (c .enum-told .given .1) ∙ c .before .before .byte .ensures))) refl
+
+pub decode-at-spec : {M : Type 1} → statement M
+decode-at-spec =
+    tie.close
+    (tie.spec
+    returns
+    rows-of-requires
+    returns-2
+    all2-requires
+    byte-requires
+    enum-known-b
+    kind-at-requires
+    sub-top
+    top-requires
+    answer-requires
+    enum-told
+    same-length
+    returns-3
+    returns-4)

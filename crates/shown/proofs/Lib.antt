@@ -1,2 +1,0 @@
--- What several proofs of `shown` cite.
-mod Steps

@@ -1,3 +1,0 @@
--- What the contracts of the tables cite, and its laws.
-pub mod Tables
-pub mod TableLaws

@@ -1,0 +1,21 @@
+-- `text3::word::version` meets its contract.
+use Rattle.meaning.specs.Text.{codes, version}
+use borrow.Author.Needs.{needs}
+use Rattle.text3.proofs.word.version.Statement.{statement}
+use Rattle.text3.proofs.word.version.Tie as tie
+
+slice-aggregate-one-of : tie.Need-slice-aggregate-one-of
+slice-aggregate-one-of c = search needs
+
+slice-aggregate-one-of-2 : tie.Need-slice-aggregate-one-of-2
+slice-aggregate-one-of-2 c = search needs
+
+one-of-requires : tie.Need-one-of-requires
+one-of-requires c κs = search needs
+
+returns : tie.Need-returns
+unfolding codes version
+returns c = c .one-of .ensures
+
+pub version-spec : {M : Type 1} → statement M
+version-spec = tie.close (tie.spec slice-aggregate-one-of slice-aggregate-one-of-2 one-of-requires returns)

@@ -1,0 +1,181 @@
+-- The frame at the top of a call: a walk without a table and then one over it, a walk over the first rows, and the answer.
+use mathlib.Core.Path.{_≡_, refl, sym, ap, subst, _∙_}
+use mathlib.Core.List.{List, [], _∷_, _++_}
+use mathlib.Core.Bool.{Bool, true, false}
+use Prim.Native.Nat.{ℕ, suc, _+_, _-_, _*_, _≤_, _<_}
+use native.Mathlib.Omega.{arith}
+use lib.Dec.{eqb}
+use lib.ListN.{length, take, drop, set, length-set, take-append-drop}
+use lib.Seq.{sets, set-append-left, take-all, drop-at, length-take-le}
+use Rattle.meaning.specs.Choice.{pick}
+use Rattle.meaning.specs.Prog.{Prog, run, Out, done, refused, unfinished}
+use Rattle.meaning.specs.ProgLaws.{then, NotFull, Bounded, bounded, roomier, Weighs, weighs-run}
+use Rattle.meaning.specs.Kinds.{Profile, Marker}
+use Rattle.meaning.specs.Rows.{nodeOf, Forest, end, item, frameKind, span, words, rowWidth, rowsIn}
+use Rattle.meaning.specs.RowsLaws.{length-words}
+use Rattle.meaning.specs.Frames.{restP, decodeP}
+use Rattle.meaning.specs.Decode.{frame, marker, outcomeOf, decode}
+use Rattle.meaning.specs.RunLaws.{leaf-run, decodeRun-is, decode-is}
+use Rattle.rows.specs.Put.{savedWords, fewRows}
+use Rattle.answers.specs.Answers.{answerOf, tableAfter, Decoded}
+use Rattle.answers.specs.declared.Answer.{Answer}
+use Rattle.answers.specs.declared.Answer.the-variants as Answer
+use Rattle.text.specs.declared.Cursor.{Cursor}
+use Rattle.leaf.specs.Leaves.{outLeaf}
+use Rattle.leaf.specs.declared.Leaf.{Leaf}
+use Rattle.leaf.specs.declared.Leaf.the-variants as Leaf
+use Rattle.walk.specs.Walks.{walkOf, Wrote, Walks, Placed, Behind, answerAs}
+use Rattle.walk.specs.Tops.{rowsAfter, Laid, Full, Tried}
+use Rattle.walk.specs.declared.Walk.{Walk}
+use Rattle.walk.specs.declared.Walk.the-variants as Walk
+use Rattle.walk.proofs.Said.{done-run, refused-run, unfinished-run}
+use Rattle.walk.proofs.Placing.{leaf-words}
+
+-- an outcome by an equal one
+pub laid : {o : Out Forest} {t₀ t₁ : List ℕ} {r : Walk} (q : Out Forest) → o ≡ q → r ≡ walkOf q → t₁ ≡ rowsAfter t₀ q → Laid o t₀ t₁ r
+laid {o} {t₀} q e says leaves = record { says = says ∙ ap walkOf (sym e); leaves = leaves ∙ ap (rowsAfter t₀) (sym e) }
+
+-- ---- a leaf
+
+pub leaf-laid : (q : Prog Forest) (w : ℕ) (s t₀ : List ℕ) (lim : ℕ) (l : Leaf) {o : Out Forest} {t₁ : List ℕ} {r : Walk} → o ≡ then (outLeaf 1 l) (λ st n u. run (restP q w st) s lim n u)
+    → lim ≡ rowsIn (length t₀) → 0 < lim → Placed l 0 w t₀ t₁ r → Laid o t₀ t₁ r
+unfolding frameKind
+leaf-laid q w s t₀ lim (Leaf.Row k a b c next) e counted one p =
+    laid (done (item (nodeOf k a b c w) end end) (next .at) 1) (e ∙ leaf-run q w s lim (next .at) 1 k a b c) (p .says)
+    (p .leaves ∙ leaf-words (nodeOf k a b c w) t₀ 0 lim one (omega arith) (omega arith))
+leaf-laid q w s t₀ lim (Leaf.Refused k n) e counted one p = laid (refused k n) e (p .says) (p .leaves)
+leaf-laid q w s t₀ lim Leaf.Unfinished e counted one p = laid unfinished e (p .says) (p .leaves)
+
+-- ---- where a walk ends
+
+pub behind : (p : Prog Forest) (s : List ℕ) (lim from at used : ℕ) {w : Walk} → from ≤ at → at ≤ length s → used ≤ lim → w ≡ walkOf (run p s lim at used) → Behind from w
+behind p s lim from at used {w} h k l e = subst (Behind from) (sym e) (go (run p s lim at used) (bounded p s lim at used k l))
+  where
+    go : (o : Out Forest) → Bounded s lim at used o → Behind from (walkOf o)
+    go (done f n u) b = omega (arith, b .from)
+    go (refused j n) b = tt
+    go unfinished b = tt
+
+-- ---- twice: first without a table
+
+none-left : (l t : List ℕ) → length l ≡ 0 → l ++ t ≡ t
+none-left [] t e = refl
+none-left (a ∷ l) t e = absurd (omega arith)
+
+-- l: what the first walk left of the empty part
+module _ (p : Prog Forest) (s t₀ l : List ℕ) (lim at used : ℕ) (e : lim ≡ rowsIn (length t₀)) (z : length l ≡ 0) where
+  pub dry-refused : {k a : ℕ} → Walks p s lim at used 0 [] l (Walk.Refused k a) → Laid (run p s lim at used) t₀ (l ++ t₀) (Walk.Refused k a)
+  dry-refused {k} {a} w = laid (refused k a) (refused-run (run p s lim at used) k a (w .says)) refl (none-left l t₀ z)
+
+  pub dry-unfinished : Walks p s lim at used 0 [] l Walk.Unfinished → Laid (run p s lim at used) t₀ (l ++ t₀) Walk.Unfinished
+  dry-unfinished w = laid unfinished (unfinished-run (run p s lim at used) (w .says)) refl (none-left l t₀ z)
+
+  -- where there is a frame, the second walk writes it
+  pub written : {c : Cursor} {u k : ℕ} → Walks p s lim at used 0 [] l (Walk.To c u k) → {t₁ : List ℕ} {w : Walk} → Walks p s lim at used 0 (l ++ t₀) t₁ w
+      → Laid (run p s lim at used) t₀ t₁ w
+  written {c} {u} {k} first {t₁} {w} second =
+      let x = done-run (run p s lim at used) c u k (first .says) in
+      let v : Walks p s lim at used 0 t₀ t₁ w = subst (λ (t : List ℕ). Walks p s lim at used 0 t t₁ w) (none-left l t₀ z) second in
+      let o : Wrote 0 lim t₀ t₁ (done (x .0) (c .at) u) = rw (x .1) at (v .leaves) in
+      laid (done (x .0) (c .at) u) (x .1) (v .says ∙ ap walkOf (x .1)) (o (omega arith))
+
+-- ---- once: over the first rows
+
+sets-append-left : (ws a b : List ℕ) (i : ℕ) → i + length ws ≤ length a → sets (a ++ b) i ws ≡ sets a i ws ++ b
+sets-append-left [] a b i h = refl
+sets-append-left (w ∷ ws) a b i h =
+    ap (λ (l : List ℕ). sets l (suc i) ws) (set-append-left a b i w (omega arith))
+    ∙ sets-append-left ws (set a i w) b (suc i) (rw length-set (omega arith))
+
+sets-front : (ws t : List ℕ) (m : ℕ) → length ws ≤ m → m ≤ length t → sets (take m t) 0 ws ++ drop m t ≡ sets t 0 ws
+sets-front ws t m h k =
+    sym (sets-append-left ws (take m t) (drop m t) 0 (omega (arith, length-take-le m t k))) ∙ ap (λ (l : List ℕ). sets l 0 ws) (take-append-drop m t)
+
+-- n frames and their holder, in a row for each: x is what the walk left of the first rows
+module _ (p : Prog Forest) (fills : Weighs 1 span p) (n : ℕ) (s t₀ x : List ℕ) (at : ℕ) (few : n < fewRows) (inside : at ≤ length s) (room : savedWords ≤ length t₀)
+    (z : length x ≡ length (take savedWords t₀)) where
+  long : length x ≡ savedWords
+  long = z ∙ length-take-le savedWords t₀ room
+
+  -- the first rows put back
+  pub put-back : (saved : List ℕ) → saved ≡ take savedWords t₀ → take savedWords saved ++ drop savedWords (x ++ drop savedWords t₀) ≡ t₀
+  put-back saved e =
+      rw (e, drop-at x (drop savedWords t₀) savedWords long, take-all savedWords (take savedWords t₀) (omega (arith, length-take-le savedWords t₀ room)))
+      (take-append-drop savedWords t₀)
+
+  abbrev Walked : Walk → Type 0
+  Walked w = Walks p s (n + 1) at 1 0 (take savedWords t₀) x w
+
+  pub once-to : {c : Cursor} {u k : ℕ} → Walked (Walk.To c u k) → Laid (run p s (n + 1) at 1) t₀ (x ++ drop savedWords t₀) (Walk.To c u k)
+  once-to {c} {u} {k} w =
+      let y = done-run (run p s (n + 1) at 1) c u k (w .says) in
+      let o : Wrote 0 (n + 1) (take savedWords t₀) x (done (y .0) (c .at) u) = rw (y .1) at (w .leaves) in
+      let b : u + 1 ≡ 1 + span (y .0) = rw (y .1) at (weighs-run span p 1 fills s (n + 1) at 1) in
+      let r : Bounded s (n + 1) at 1 (done (y .0) (c .at) u) = rw (y .1) at (bounded p s (n + 1) at 1 inside (omega arith)) in
+      laid (done (y .0) (c .at) u) (y .1) (w .says ∙ ap walkOf (y .1))
+      (ap (λ (l : List ℕ). l ++ drop savedWords t₀) (o (omega (arith, length-take-le savedWords t₀ room)))
+      ∙ sets-front (words (y .0)) t₀ savedWords (omega (arith, length-words (y .0), r .rows)) room)
+
+  pub once-refused : {k a : ℕ} {t₁ : List ℕ} → Walked (Walk.Refused k a) → t₁ ≡ t₀ → Laid (run p s (n + 1) at 1) t₀ t₁ (Walk.Refused k a)
+  once-refused {k} {a} w e = laid (refused k a) (refused-run (run p s (n + 1) at 1) k a (w .says)) refl e
+
+  pub once-unfinished : {t₁ : List ℕ} → Walked Walk.Unfinished → t₁ ≡ t₀ → Laid (run p s (n + 1) at 1) t₀ t₁ Walk.Unfinished
+  once-unfinished w e = laid unfinished (unfinished-run (run p s (n + 1) at 1) (w .says)) refl e
+
+-- what is no 11 in few rows is the answer in more
+pub tried : (p : Prog Forest) (s t₀ t₁ : List ℕ) (lim most at used : ℕ) (r : Walk) → lim ≤ most → Laid (run p s lim at used) t₀ t₁ r
+    → Tried (run p s most at used) t₀ t₁ r
+tried p s t₀ t₁ lim most at used r le w = record {
+  stands = λ full. stay full (run p s lim at used) refl;
+  kept = λ full. w .leaves ∙ keep (run p s lim at used) (subst Full (w .says) full);
+}
+  where
+    open-up : (o : Out Forest) → (Full (walkOf o) → ⊥) → NotFull o
+    open-up (done f n u) h = tt
+    open-up (refused k n) h = h
+    open-up unfinished h = tt
+
+    stay : (Full r → ⊥) → (o : Out Forest) → run p s lim at used ≡ o → Laid (run p s most at used) t₀ t₁ r
+    stay full o e =
+        let q : run p s most at used ≡ run p s lim at used =
+        roomier p s lim most at used le (open-up (run p s lim at used) (λ y. full (subst Full (sym (w .says)) y))) in
+        laid (run p s lim at used) q (w .says) (w .leaves)
+
+    keep : (o : Out Forest) → Full (walkOf o) → rowsAfter t₀ o ≡ t₀
+    keep (done f n u) h = absurd h
+    keep (refused k n) h = refl
+    keep unfinished h = refl
+
+-- ---- the whole call
+
+says-alike : (at : ℕ) (o : Out Forest) → answerAs at (walkOf o) ≡ answerOf (outcomeOf at o)
+unfolding outcomeOf
+says-alike at (done f n u) = go (eqb (frameKind f) Marker)
+  where
+    go : (b : Bool) → pick b (Answer.Marker (n - at) u) (Answer.Frame (n - at) u)
+        ≡ answerOf (pick b (marker (n - at) u (words f)) (frame (n - at) u (words f)))
+    go true = refl
+    go false = refl
+says-alike at (refused k n) = refl
+says-alike at unfinished = refl
+
+leaves-alike : (at : ℕ) (t : List ℕ) (o : Out Forest) → rowsAfter t o ≡ tableAfter t (outcomeOf at o)
+unfolding outcomeOf
+leaves-alike at t (done f n u) = go (eqb (frameKind f) Marker)
+  where
+    go : (b : Bool) → sets t 0 (words f) ≡ tableAfter t (pick b (marker (n - at) u (words f)) (frame (n - at) u (words f)))
+    go true = refl
+    go false = refl
+leaves-alike at t (refused k n) = refl
+leaves-alike at t unfinished = refl
+
+-- What is laid of a decoder's run is what its call promises.
+pub decoded : (π : Profile) (d : ℕ) (s : List ℕ) (at : ℕ) (t₀ t₁ : List ℕ) (lim : ℕ) → lim ≡ rowsIn (length t₀) → {w : Walk} {r : Answer}
+    → Laid (run (decodeP π d) s lim at 0) t₀ t₁ w → r ≡ answerAs at w → Decoded π d s at t₀ t₁ r
+decoded π d s at t₀ t₁ lim e {w} {r} l q =
+    let m : decode π d (rowsIn (length t₀)) s at ≡ outcomeOf at (run (decodeP π d) s lim at 0) =
+    ap (λ (n : ℕ). decode π d n s at) (sym e) ∙ decode-is π d lim s at ∙ ap (outcomeOf at) (decodeRun-is π d lim s at) in
+    record {
+      says = q ∙ ap (answerAs at) (l .says) ∙ says-alike at (run (decodeP π d) s lim at 0) ∙ ap answerOf (sym m);
+      leaves = l .leaves ∙ leaves-alike at t₀ (run (decodeP π d) s lim at 0) ∙ ap (tableAfter t₀) (sym m);
+    }

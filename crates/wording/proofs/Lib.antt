@@ -1,0 +1,2 @@
+-- What several proofs of the words cite.
+mod Steps
