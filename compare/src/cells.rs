@@ -1,4 +1,4 @@
-//! Settles the cells of document 01's kind table: one run of the crate for each kind in each position.
+//! Settles the cells of the kind table (RULES 1.7): one run of the crate for each kind in each position.
 
 use crate::show::show;
 use redis_protocol::resp3::decode::streaming::decode_range;

@@ -1,6 +1,6 @@
 //! Holds our RESP2 encoder and its length to the crate's.
 //!
-//! Which tables are encodable is judged here from document 01's words; what an encodable one gives is the crate's.
+//! Which tables are encodable is judged here by RULES 5.2; what an encodable one gives is the crate's.
 
 use crate::digits::every_edge;
 use crate::generate::Maker;

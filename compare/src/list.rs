@@ -26,7 +26,7 @@ const ROWS: usize = 64;
 /// Of the strings of up to 6 tokens, one in so many.
 const STRIDE: usize = 4_999;
 
-/// Frames of which every prefix is in the list; the P samples of document 01 that RESP2 has are among them.
+/// Frames of which every prefix is in the list; the P samples of RULES 6.1 that RESP2 has are among them.
 const WHOLE: &[&[u8]] = &[
     b"+OK\r\n", b"$-1\r\n", b"*-01\r\n", b"$3\r\nabcXY", b":-9223372036854775808\r\n", b"-ERR wrong\r\n",
     b"+a\rb\nc\r\r\n", b"$0\r\n\r\n", b"$4\r\n\r\n\r\n\r\n", b"*0\r\n", b"*2\r\n:7\r\n$-1\r\n",

@@ -1,4 +1,4 @@
-//! Shows again, by runs of the crate, where it and document 01 part (docs/DIFFERENCES.md, A1 to A6).
+//! Shows again, by runs of the crate, what it does with the inputs A1 to A6 of docs/DIFFERENCES.md.
 
 use crate::show::show;
 use redis_protocol::resp2::{self, types::Resp2Frame};

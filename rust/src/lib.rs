@@ -1,7 +1,7 @@
 //! Safe calls of the decoder and encoder that `rt staticlib imrazgul` builds; the features name calls that a library may not
 //! have yet.
 //!
-//! A table is lent by the caller: 6 words a row, at most 4,096 rows. docs/ has the meaning of its words.
+//! A table is lent by the caller: 6 words a row, at most 4,096 rows. docs/RULES.md, 1.2, has the meaning of its words.
 #![no_std]
 
 /// What a decode gives back, as numbers.

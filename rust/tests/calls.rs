@@ -1,4 +1,4 @@
-//! Calls each function with known inputs, so that a wrong declaration is caught. P2 to P13 are samples of document 01.
+//! Calls each function with known inputs, so that a wrong declaration is caught. P2 to P13 are samples of RULES 6.
 
 use imrazgul::*;
 

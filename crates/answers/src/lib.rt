@@ -6,7 +6,7 @@ pub enum Answer {
     // bytes consumed and rows used
     Frame(usize, usize),
     Marker(usize, usize),
-    // document 01's number
+    // the refusal's number (RULES 3.4)
     Refused(u64),
     Unfinished,
 }

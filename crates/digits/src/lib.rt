@@ -1,4 +1,4 @@
-// The decimal digits of 64-bit numbers, written from the rule: a number is cut into four sixteen-bit parts, the parts
+// The decimal digits of 64-bit numbers, by RULES 4.3: a number is cut into four sixteen-bit parts, the parts
 // are put together in base 10,000, and two tables give the digits of each two-digit remainder.
 ghost use mathlib.Core.Path.{_≡_};
 ghost use Prim.Native.Nat.{_≤_, _<_};

@@ -6,31 +6,54 @@ ghost use Rattle.kinds.specs.Entries.{IsKinds, IsColumns};
 
 // The kind codes, as a row's word 0 has them.
 pub const SIMPLE_STRING: u8 = 1;
+
 pub const SIMPLE_ERROR: u8 = 2;
+
 pub const NUMBER: u8 = 3;
+
 pub const DOUBLE: u8 = 4;
+
 pub const BOOLEAN: u8 = 5;
+
 pub const NULL: u8 = 6;
+
 pub const BLOB_STRING: u8 = 7;
+
 pub const BLOB_ERROR: u8 = 8;
+
 pub const VERBATIM: u8 = 9;
+
 pub const BIG_NUMBER: u8 = 10;
+
 pub const CHUNKED_STRING: u8 = 11;
+
 pub const END_STREAM: u8 = 12;
+
 pub const ARRAY: u8 = 13;
+
 pub const MAP: u8 = 14;
+
 pub const SET: u8 = 15;
+
 pub const PUSH: u8 = 16;
+
 pub const ATTRIBUTE: u8 = 17;
+
 pub const HELLO: u8 = 18;
+
 pub const MARKER: u8 = 19;
+
 pub const USER: u8 = 20;
+
 pub const PASSWORD: u8 = 21;
+
 pub const NAME: u8 = 22;
 
 // The columns of a kind.
 pub const KEY: usize = 0;
+
 pub const CARRY: usize = 1;
+
 pub const CHILDREN: usize = 2;
 
 // Indexed by the type byte: its kind in RESP2, 0 where there is none.
@@ -610,7 +633,7 @@ pub fn all_columns() -> [[u8; 3]; 23]
 }
 
 // A kind's column, of columns that are lent. A kind past the last has 0 in each.
-fn column_at(columns: &[[u8; 3]; 23], kind: u8, c: usize) -> u8
+fn column_at(columns: &[[u8; 3]; 23], kind: u64, c: usize) -> u8
     requires { ⌜ IsColumns (now columns) × (c < 3) ⌝ }
     ensures { λ r. ⌜ r ≡ column kind c ⌝ }
 {
@@ -619,7 +642,7 @@ fn column_at(columns: &[[u8; 3]; 23], kind: u8, c: usize) -> u8
 }
 
 // Whether a kind may be a key or a set member.
-pub fn may_key(columns: &[[u8; 3]; 23], kind: u8) -> bool
+pub fn may_key(columns: &[[u8; 3]; 23], kind: u64) -> bool
     requires { ⌜ IsColumns (now columns) ⌝ }
     ensures { λ r. ⌜ r ≡ mayKey kind ⌝ }
 {
@@ -627,7 +650,7 @@ pub fn may_key(columns: &[[u8; 3]; 23], kind: u8) -> bool
 }
 
 // Whether a kind may carry an attribute.
-pub fn may_carry(columns: &[[u8; 3]; 23], kind: u8) -> bool
+pub fn may_carry(columns: &[[u8; 3]; 23], kind: u64) -> bool
     requires { ⌜ IsColumns (now columns) ⌝ }
     ensures { λ r. ⌜ r ≡ mayCarry kind ⌝ }
 {
@@ -635,7 +658,7 @@ pub fn may_carry(columns: &[[u8; 3]; 23], kind: u8) -> bool
 }
 
 // Whether a kind has children.
-pub fn has_children(columns: &[[u8; 3]; 23], kind: u8) -> bool
+pub fn has_children(columns: &[[u8; 3]; 23], kind: u64) -> bool
     requires { ⌜ IsColumns (now columns) ⌝ }
     ensures { λ r. ⌜ r ≡ hasChildren kind ⌝ }
 {

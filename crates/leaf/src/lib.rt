@@ -12,21 +12,21 @@ ghost use Rattle.meaning.specs.Frames.{textLineP, numberP, takesPlain, bulkP};
 ghost use Rattle.leaf.specs.Leaves.{Reads, Counts, ofNumber, ofLength};
 
 // The kinds that are named here, as a row's word 0 has them.
-const NUMBER: u64 = 3;
+const NUMBER: u64 = kinds::NUMBER as u64;
 
-const NULL: u64 = 6;
+const NULL: u64 = kinds::NULL as u64;
 
-const BLOB_ERROR: u64 = 8;
+const BLOB_ERROR: u64 = kinds::BLOB_ERROR as u64;
 
-const VERBATIM: u64 = 9;
+const VERBATIM: u64 = kinds::VERBATIM as u64;
 
-const CHUNKED_STRING: u64 = 11;
+const CHUNKED_STRING: u64 = kinds::CHUNKED_STRING as u64;
 
-const PUSH: u64 = 16;
+const PUSH: u64 = kinds::PUSH as u64;
 
-const ATTRIBUTE: u64 = 17;
+const ATTRIBUTE: u64 = kinds::ATTRIBUTE as u64;
 
-const MARKER: u64 = 19;
+const MARKER: u64 = kinds::MARKER as u64;
 
 pub enum Leaf {
     // words 0 to 3 of its row, and the cursor behind it

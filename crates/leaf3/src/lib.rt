@@ -14,15 +14,15 @@ ghost use Rattle.leaf.specs.Leaves.{Reads};
 ghost use Rattle.leaf3.specs.Answers.{ofBoolean, ofFormat, Greets};
 
 // The kinds that are named here, as a row's word 0 has them.
-const DOUBLE: u64 = 4;
+const DOUBLE: u64 = kinds::DOUBLE as u64;
 
-const BOOLEAN: u64 = 5;
+const BOOLEAN: u64 = kinds::BOOLEAN as u64;
 
-const VERBATIM: u64 = 9;
+const VERBATIM: u64 = kinds::VERBATIM as u64;
 
-const CHUNKED_STRING: u64 = 11;
+const CHUNKED_STRING: u64 = kinds::CHUNKED_STRING as u64;
 
-const END_STREAM: u64 = 12;
+const END_STREAM: u64 = kinds::END_STREAM as u64;
 
 // What HELLO's line says, which starts at the cursor and whose text ends 2 before the cursor behind it.
 pub enum Greeted {

@@ -66,7 +66,7 @@ encoded s flag (item h k r) = lineOf s flag h ++ (encoded s flag k ++ encoded s 
 
 -- ---- the calls
 
--- the bytes, or document 01's number
+-- the bytes, or the refusal's number (RULES 5.4)
 pub data Encoding : Type 0 where
   unable : ℕ → Encoding
   able : List ℕ → Encoding

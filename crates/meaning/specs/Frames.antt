@@ -23,7 +23,7 @@ pub data Step : Type 0 where
 abbrev pub lineP : {A : Type 0} → (List ℕ → Prog A) → Prog A
 lineP f = ask line (λ c. f (take (length c - 2) c))
 
--- ---- one line: simple strings, simple errors, big numbers (RESP, "Simple strings", "Simple errors", "Big numbers"; 01 takes any text)
+-- ---- one line: simple strings, simple errors, big numbers (RESP, "Simple strings", "Simple errors", "Big numbers"; RULES 2.7 takes any text)
 
 abbrev pub textLineP : Profile → ℕ → Prog Step
 textLineP π k = here (λ at used. lineP (λ s. ret (leaf k at (at + length s) 0)))
@@ -59,12 +59,12 @@ lengthFor π k s = pick (takesPlain k) (plainLength s) (signedLength (π .three)
 abbrev pub lengthP : Profile → ℕ → (ℕ → Prog Step) → Prog Step
 lengthP π k f = lineP (λ s. sized π k f (lengthFor π k s))
 
--- ---- bulk strings, bulk errors (RESP, "Bulk strings", "Bulk errors"): so many bytes, and two that 01 skips unchecked where RESP asks for CR LF
+-- ---- bulk strings, bulk errors (RESP, "Bulk strings", "Bulk errors"): so many bytes, and two that RULES 2.8 skips unchecked where RESP asks for CR LF
 
 abbrev pub bulkP : Profile → ℕ → ℕ → Prog Step
 bulkP π k n = here (λ at used. ask (bytes (n + 2)) (λ c. ret (leaf k at (at + n) 0)))
 
--- ---- nulls, ends of a stream (RESP, "Nulls"; RESP3, "Streamed aggregated data types"): 01 ignores the line's text
+-- ---- nulls, ends of a stream (RESP, "Nulls"; RESP3, "Streamed aggregated data types"): RULES 2.9 ignores the line's text
 
 abbrev pub blankP : Profile → ℕ → Prog Step
 blankP π k = lineP (λ s. ret (leaf k 0 0 0))
@@ -81,7 +81,7 @@ booleanP π = lineP (λ s. judged (boolean s))
 abbrev pub doubleP : Profile → Prog Step
 doubleP π = here (λ at used. lineP (λ s. pick (double s) (ret (leaf Double at (at + length s) 0)) (refuse 3)))
 
--- ---- verbatim strings (RESP, "Verbatim strings"): four bytes must come before a length below 4 is refused, and the whole text before its format is judged; 01 does not check the fourth byte
+-- ---- verbatim strings (RESP, "Verbatim strings"): four bytes must come before a length below 4 is refused, and the whole text before its format is judged; RULES 2.11 does not check the fourth byte
 
 abbrev pub formatted : ℕ → ℕ → Option ℕ → Prog Step
 formatted from to none = refuse 4
@@ -96,7 +96,7 @@ verbatimP π n = ask (bytes 4) (λ f. pick (ltb n 4) (refuse 4) (here (λ at use
 abbrev pub chunkP : Profile → ℕ → Prog Step
 chunkP π n = pick (eqb n 0) (ret (leaf EndStream 0 0 0)) (bulkP π ChunkedString n)
 
--- ---- HELLO (RESP, "Client handshake"; as one line by document 01)
+-- ---- HELLO (RESP, "Client handshake"; as one line by RULES 2.13)
 
 abbrev pub greeted : Option HelloLine → Prog Step
 greeted none = refuse 5

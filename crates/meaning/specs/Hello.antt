@@ -1,4 +1,4 @@
--- HELLO as one line (RESP, "Client handshake"; as a line by document 01): its version, and the rows of its fields.
+-- HELLO as one line (RESP, "Client handshake"; as a line by RULES 2.13): its version, and the rows of its fields.
 use mathlib.Core.List.{List, []}
 use mathlib.Core.Bool.{Bool, true, _&&_}
 use mathlib.Core.Option.{Option, none, some}

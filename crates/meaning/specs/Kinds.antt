@@ -20,7 +20,7 @@ resp3 = record { three = true; complete = true }
 abbrev pub resp3-stream : Profile
 resp3-stream = record { three = true; complete = false }
 
--- ---- kind codes (document 01, The row table)
+-- ---- kind codes (RULES 1.3)
 
 abbrev pub SimpleString : ℕ
 SimpleString = 1
@@ -88,7 +88,7 @@ Password = 21
 abbrev pub Name : ℕ
 Name = 22
 
--- ---- type bytes (RESP, the table of data types; the streamed kinds from RESP3; H by document 01)
+-- ---- type bytes (RESP, the table of data types; the streamed kinds from RESP3; H by RULES 1.3)
 
 -- pairs of byte and code; 0 where there is none
 unfoldable pub lookup : List (ℕ × ℕ) → ℕ → ℕ
@@ -104,7 +104,7 @@ kinds2 =
     ∷ (code "*", Array)
     ∷ []
 
--- RESP3 has these besides
+-- all that RESP3 has
 abbrev pub kinds3 : List (ℕ × ℕ)
 kinds3 =
     (code "+", SimpleString)

@@ -19,5 +19,6 @@ pub mod KindsLaws
 pub mod RowsLaws
 pub mod FramesLaws
 pub mod RunLaws
+pub mod KeyLaws
 pub mod DecodeLaws
 pub mod DigitLaws

@@ -347,6 +347,14 @@ module _ {A : Type 0} where
   weighs-more w (here f) m k g = λ i j. weighs-more w (f i j) m k (g i j)
   weighs-more w (ask d f) m k g = λ c. weighs-more w (f c) m k (g c)
 
+  -- a property that follows from another
+  pub gives-all : (P Q : A → Type 0) (p : Prog A) → Gives P p → ((a : A) → P a → Q a) → Gives Q p
+  gives-all P Q (ret a) g h = h a g
+  gives-all P Q (refuse k) g h = tt
+  gives-all P Q (room p) g h = gives-all P Q p g h
+  gives-all P Q (here k) g h = λ i j. gives-all P Q (k i j) (g i j) h
+  gives-all P Q (ask d k) g h = λ c. gives-all P Q (k c) (g c) h
+
   pub says-gives : (P : A → Type 0) (p : Prog A) → Says P p → Gives P p
   says-gives P (ret a) h = h
   says-gives P (refuse k) h = tt

@@ -49,7 +49,7 @@ module _ {A : Type 0} (s : List ℕ) (lim at used : ℕ) where
 
 -- ---- values
 
--- the outcomeOf with its value changed
+-- an outcome with its value changed
 abbrev pub mapOut : {A B : Type 0} → (A → B) → Out A → Out B
 mapOut f (done a n u) = done (f a) n u
 mapOut f (refused k n) = refused k n

@@ -62,7 +62,7 @@ unfolding digits
 signed [] = none
 signed (c ∷ r) = pick (eqb c (code "+")) (plusOf (digits r)) (pick (eqb c (code "-")) (minusOf (digits r)) (plusOf (digits (c ∷ r))))
 
--- ---- lengths (RESP: "one or more decimal digits"; document 01 follows the crate in the signs it takes, and in `?`)
+-- ---- lengths (RESP: "one or more decimal digits"; RULES 2.2 and 2.3 follow the crate in the signs they take, and in `?`)
 
 pub data Length : Type 0 where
   count : ℕ → Length
@@ -87,7 +87,7 @@ lengthOf (some (minus n)) = pick (eqb n 1) (some minusOne) none
 abbrev pub signedLength : Bool → List ℕ → Option Length
 signedLength three s = pick (three && is "?" s) (some minusOne) (lengthOf (signed s))
 
--- ---- doubles (RESP, "Doubles"; document 01 follows Rust's f64 grammar, which also takes `infinity`, any letter case, `.5` and `5.`)
+-- ---- doubles (RESP, "Doubles"; RULES 2.5 follows Rust's f64 grammar, which also takes `infinity`, any letter case, `.5` and `5.`)
 
 abbrev pub lower : ℕ → ℕ
 lower c = pick (leb (code "A") c && leb c (code "Z")) (c + 32) c

@@ -55,7 +55,13 @@ fn long_number(s: &[u8], c: Cursor) -> Leaf
     }
     match text::number::digits_line(s, Cursor { at: at + 1 }, 18) {
         Short::Got(v, next) => {
-            Leaf::Row(kinds::NUMBER as u64, text::number::minus_word(v), 0, 0, next)
+            Leaf::Row(
+                kinds::NUMBER as u64,
+                text::number::minus_word(v),
+                0,
+                0,
+                next,
+            )
         }
         Short::No => leaf::number_long(s, c),
     }

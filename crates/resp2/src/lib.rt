@@ -39,19 +39,21 @@ fn twice(
 }
 
 // A few frames, in a row for each: one walk, over the first rows, which are put back unless the array is there.
-fn once(
-    s: &[u8],
-    t: &mut [u64],
-    kinds: &[u8; 256],
-    c: Cursor,
-    depth: usize,
-    n: u64,
-) -> Walk
+fn once(s: &[u8], t: &mut [u64], kinds: &[u8; 256], c: Cursor, depth: usize, n: u64) -> Walk
     requires { ⌜ Small n (now s) (now kinds) (now t) (c .at) ⌝ }
     ensures { λ r. ⌜ Laid (arrayOut depth n (now (s .entry)) (n + 1) (c .at)) (now (t .entry)) (now (t .exit)) r ⌝ }
 {
     let saved = rows::front(t);
-    match frames::array(s, &mut t[..rows::SAVED], kinds, n as usize + 1, c, 1, depth, n) {
+    match frames::array(
+        s,
+        &mut t[..rows::SAVED],
+        kinds,
+        n as usize + 1,
+        c,
+        1,
+        depth,
+        n,
+    ) {
         Walk::To(p, u, k) => Walk::To(p, u, k),
         Walk::Refused(k, p) => {
             rows::put_back(t, &saved);

@@ -65,6 +65,7 @@ pub fn row_at(t: &[u64], row: usize) -> Row
 
 // How many rows at the front of a table are saved by `front`, and how many words those are.
 pub const FEW: usize = 6;
+
 pub const SAVED: usize = FEW * WIDTH;
 
 // The words of a table's first rows.

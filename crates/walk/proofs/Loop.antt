@@ -19,7 +19,7 @@ use Rattle.walk.specs.Walks.{Wrote, Walks}
 use Rattle.walk.specs.declared.Walk.the-variants as Walk
 use Rattle.walk.proofs.Said.{done-run}
 
-map-join-end : (o : Out Forest) → mapOut (join end) o ≡ o
+pub map-join-end : (o : Out Forest) → mapOut (join end) o ≡ o
 unfolding join
 map-join-end (done f n u) = refl
 map-join-end (refused k n) = refl
@@ -41,7 +41,7 @@ pub record Loop (p : Prog Forest) (s t₀ : List ℕ) (lim n at₀ used₀ : ℕ
   pub runs : run (framesP n p) s lim at₀ used₀ ≡ mapOut (join read) (run (framesP (n - i) p) s lim at used)
   pub holds : rowWidth * lim ≤ length t₀ → t ≡ sets t₀ (rowWidth * used₀) (words read)
 
-pub loop-start : {p : Prog Forest} {s t₀ : List ℕ} {lim n at used : ℕ} → at ≤ length s → used ≤ lim → Loop p s t₀ lim n at used t₀ at used 0
+unfoldable pub loop-start : {p : Prog Forest} {s t₀ : List ℕ} {lim n at used : ℕ} → at ≤ length s → used ≤ lim → Loop p s t₀ lim n at used t₀ at used 0
 unfolding span words
 loop-start {p} {s} {t₀} {lim} {n} {at} {used} h r =
     let z : n - 0 ≡ n = omega arith in
@@ -73,27 +73,45 @@ module _ {p : Prog Forest} {s t₀ : List ℕ} {lim n at₀ used₀ : ℕ} {t : 
       let z : n - i ≡ 0 = omega arith in
       l .runs ∙ rw (z, frames-none p s lim at used, join-end (l .read))
 
-  next-frame : Weighs 0 span p → i < n → (t′ : List ℕ) (a u : ℕ) → length t′ ≡ length t → (f : Forest) → (frameKind f ≡ Marker → ⊥) → run p s lim at used ≡ done f a u
-      → Wrote used lim t t′ (run p s lim at used) → Loop p s t₀ lim n at₀ used₀ t′ a u (i + 1)
-  next-frame fills h t′ a u e f m q w =
-      let b : Within s lim at used a u = rw q at (bounded p s lim at used (l .within) (l .rows)) in
-      let k : u + 0 ≡ used + span f = rw q at (weighs-run span p 0 fills s lim at used) in
-      let v : Wrote used lim t t′ (done f a u) = rw q at w in
+  -- one frame more, of kind k: it is at the end of what was read
+  pub record Next (t′ : List ℕ) (c : Cursor) (u k : ℕ) : Type 0 where
+    pub frame : Forest
+    pub gave : run p s lim at used ≡ done frame (c .at) u
+    pub kind : k ≡ frameKind frame
+    pub loop : Loop p s t₀ lim n at₀ used₀ t′ (c .at) u (i + 1)
+    pub reads : loop .read ≡ join (l .read) frame
+
+  by-frame : Weighs 0 span p → i < n → (t′ : List ℕ) (c : Cursor) (u k : ℕ) → (k ≡ Marker → ⊥) → length t′ ≡ length t → (f : Forest) → run p s lim at used ≡ done f (c .at) u → k ≡ frameKind f
+      → Wrote used lim t t′ (run p s lim at used) → Next t′ c u k
+  by-frame fills h t′ c u k m e f q z w =
+      let b : Within s lim at used (c .at) u = rw q at (bounded p s lim at used (l .within) (l .rows)) in
+      let j : u + 0 ≡ used + span f = rw q at (weighs-run span p 0 fills s lim at used) in
+      let v : Wrote used lim t t′ (done f (c .at) u) = rw q at w in
       record {
-        read = join (l .read) f;
-        turns = omega arith;
-        within = b .to;
-        rows = b .rows;
-        same = e ∙ l .same;
-        count = omega (arith, span-join (l .read) f, l .count);
-        runs = loop-more h ∙ rw (q, ne-eqb (frameKind f) Marker m) (map-join (l .read) f (run (framesP (n - (i + 1)) p) s lim a u));
-        holds = λ g. v (omega (arith, l .same)) ∙ rw (l .holds g, words-join (l .read) f)
-            (sets-append (words (l .read)) t₀ (words f) (rowWidth * used₀) (rowWidth * used) (omega (arith, length-words (l .read), l .count)));
+        frame = f;
+        gave = q;
+        kind = z;
+        loop = record {
+          read = join (l .read) f;
+          turns = omega arith;
+          within = b .to;
+          rows = b .rows;
+          same = e ∙ l .same;
+          count = omega (arith, span-join (l .read) f, l .count);
+          runs = loop-more h ∙ rw (q, ne-eqb (frameKind f) Marker (λ y. m (z ∙ y))) (map-join (l .read) f (run (framesP (n - (i + 1)) p) s lim (c .at) u));
+          holds = λ g. v (omega (arith, l .same)) ∙ rw (l .holds g, words-join (l .read) f)
+              (sets-append (words (l .read)) t₀ (words f) (rowWidth * used₀) (rowWidth * used) (omega (arith, length-words (l .read), l .count)));
+        };
+        reads = refl;
       }
 
   -- a frame of kind k, that is no marker
+  pub next-frame : Weighs 0 span p → i < n → {t′ : List ℕ} {c : Cursor} {u k : ℕ} → (k ≡ Marker → ⊥) → length t′ ≡ length t
+      → Walks p s lim at used used t t′ (Walk.To c u k) → Next t′ c u k
+  next-frame fills h {t′} {c} {u} {k} m e w =
+      let x = done-run (run p s lim at used) c u k (w .says) in
+      by-frame fills h t′ c u k m e (x .0) (x .1) (x .2) (w .leaves)
+
   pub loop-next : Weighs 0 span p → i < n → {t′ : List ℕ} {c : Cursor} {u k : ℕ} → (k ≡ Marker → ⊥) → length t′ ≡ length t
       → Walks p s lim at used used t t′ (Walk.To c u k) → Loop p s t₀ lim n at₀ used₀ t′ (c .at) u (i + 1)
-  loop-next fills h {t′} {c} {u} {k} m e w =
-      let x = done-run (run p s lim at used) c u k (w .says) in
-      next-frame fills h t′ (c .at) u e (x .0) (λ z. m (x .2 ∙ z)) (x .1) (w .leaves)
+  loop-next fills h m e w = next-frame fills h m e w .loop

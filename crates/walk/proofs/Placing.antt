@@ -37,15 +37,15 @@ unfolding words span
 leaf-words h t used lim l few room = put-there t used (rowOf h 1) (omega arith) (omega arith)
 
 -- a walk that comes to a leaf, and then to what follows a head
-pub leaf-walks : {p : Prog Forest} (q : Prog Forest) (w : ℕ) {s : List ℕ} {lim at used : ℕ} (l : Leaf) {t₀ t₁ : List ℕ} {r : Walk}
-    → run p s lim at used ≡ then (outLeaf (used + 1) l) (λ st n u. run (restP q w st) s lim n u) → used < lim → lim ≤ mostRows → Placed l used w t₀ t₁ r
-    → Walks p s lim at used used t₀ t₁ r
+pub leaf-walks : {p : Prog Forest} (q : Prog Forest) (w : ℕ) {s : List ℕ} {lim at used row : ℕ} (l : Leaf) {t₀ t₁ : List ℕ} {r : Walk}
+    → run p s lim at used ≡ then (outLeaf (row + 1) l) (λ st n u. run (restP q w st) s lim n u) → row < lim → lim ≤ mostRows → Placed l row w t₀ t₁ r
+    → Walks p s lim at used row t₀ t₁ r
 unfolding frameKind
-leaf-walks {p} q w {s} {lim} {at} {used} l {t₀} {t₁} e h few d = subst (Walks p s lim at used used t₀ t₁) (sym (d .says)) (go l e (d .leaves))
+leaf-walks {p} q w {s} {lim} {at} {used} {row} l {t₀} {t₁} e h few d = subst (Walks p s lim at used row t₀ t₁) (sym (d .says)) (go l e (d .leaves))
   where
-    go : (l : Leaf) → run p s lim at used ≡ then (outLeaf (used + 1) l) (λ st n u. run (restP q w st) s lim n u) → t₁ ≡ leafTable t₀ used w l
-        → Walks p s lim at used used t₀ t₁ (leafWalk used l)
+    go : (l : Leaf) → run p s lim at used ≡ then (outLeaf (row + 1) l) (λ st n u. run (restP q w st) s lim n u) → t₁ ≡ leafTable t₀ row w l
+        → Walks p s lim at used row t₀ t₁ (leafWalk row l)
     go (Leaf.Row k a b c next) e d =
-        walks-to (item (nodeOf k a b c w) end end) (e ∙ leaf-run q w s lim (next .at) (used + 1) k a b c) (λ g. d ∙ leaf-words (nodeOf k a b c w) t₀ used lim h few g)
+        walks-to (item (nodeOf k a b c w) end end) (e ∙ leaf-run q w s lim (next .at) (row + 1) k a b c) (λ g. d ∙ leaf-words (nodeOf k a b c w) t₀ row lim h few g)
     go (Leaf.Refused k n) e d = walks-refused e
     go Leaf.Unfinished e d = walks-unfinished e

@@ -44,14 +44,7 @@ pub fn leaf_row(t: &mut [u64], row: usize, attribute: u64, l: Leaf) -> Walk
 }
 
 // A holder's row, written after the rows beneath it, which stand from `first` on, up to `used`.
-pub fn holder_row(
-    t: &mut [u64],
-    first: usize,
-    used: usize,
-    kind: u64,
-    n: u64,
-    attribute: u64,
-)
+pub fn holder_row(t: &mut [u64], first: usize, used: usize, kind: u64, n: u64, attribute: u64)
     requires { ⌜ (0 < first) × (first ≤ used) × (used ≤ mostRows) ⌝ }
     ensures { λ _. ⌜ now (t .exit) ≡ putRow (now (t .entry)) (first - 1) (rowOf (nodeOf kind 0 0 n attribute) (used - first + 1)) ⌝ }
 {

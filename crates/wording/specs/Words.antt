@@ -9,7 +9,7 @@ use lib.ListN.{length, getD, replicate}
 use Rattle.meaning.specs.Choice.{pick}
 use Rattle.wording.specs.Codes.{codes}
 
--- the kind codes of docs/RULES.md, 1.3, from 0 on
+-- the kind codes of RULES 1.3, from 0 on
 abbrev pub kindNames : List String
 kindNames =
     "" ∷ "SimpleString" ∷ "SimpleError" ∷ "Number" ∷ "Double" ∷ "Boolean" ∷ "Null" ∷ "BlobString" ∷ "BlobError" ∷ "Verbatim" ∷ "BigNumber" ∷ "ChunkedString" ∷ "EndStream" ∷ "Array" ∷ "Map" ∷ "Set" ∷ "Push" ∷ "Attribute" ∷ "Hello" ∷ "Marker" ∷ "User" ∷ "Password" ∷ "Name" ∷ []
@@ -17,7 +17,7 @@ kindNames =
 abbrev pub kindName : ℕ → String
 kindName k = getD kindNames k ""
 
--- the refusals of a decoder, docs/RULES.md, 3.4, from 0 on
+-- the refusals of a decoder, RULES 3.4, from 0 on
 abbrev pub reasonTexts : List String
 reasonTexts =
     "" ∷ "type byte unknown to the protocol" ∷ "bad length text" ∷ "bad Number, Double or Boolean text" ∷ "Verbatim shorter than 4 bytes, or its format not txt or mkd" ∷ "bad Hello line" ∷ "streaming marker that is not allowed here" ∷ "attribute directly after an attribute" ∷ "Map key or Set member that is not allowed" ∷ "attribute on a frame that cannot carry one" ∷ "more than 32 frames one inside another" ∷ "more rows needed than the table has" ∷ []

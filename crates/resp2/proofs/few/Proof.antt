@@ -21,8 +21,11 @@ same-length c = search needs
 returns : tie.Need-returns
 returns c =
     let e = c .before .before .before .before .before .before .before .before .before .before .before .args in
+    let once = c .before .before .once in
+    let if2 = c .before .before .before .before .before .before .before .if2 in
+    let if1 = c .before .before .before .before .before .before .before .before .if1 in
     tried (restP (frameP resp2 (e .depth)) 0 (holder Array (e .n))) (e .s .now) (e .t .now) _ (e .n + 1) (e .lim) (e .c .at) 1 _
-    (omega (arith, c .before .before .before .before .before .before .before .before .if1 .taken, c .before .before .before .before .before .before .before .if2 .taken)) (c .before .before .once .ensures)
+    (omega (arith, if1 .taken, if2 .taken)) (once .ensures)
 
 returns-2 : tie.Need-returns-2
 returns-2 c = untried _

@@ -27,8 +27,11 @@ returns : tie.Need-returns
 returns c =
     let e = c .before .before .before .before .before .before .before .before .before .before .before .before .before .before .args in
     let f = c .before .before .before .before .before .before .before .before .before .before .few in
-    let same = (subst (Tried (arrayOut (e .depth) (e .n) (e .s .now) (e .lim) (e .c .at)) (e .t .now) (f .last .1 .0)) (c .before .before .before .before .before .before .k .given .1) (f .ensures)) .kept (c .before .before .before .before .if1 .taken) in
-    subst (λ (t : List ℕ). Laid (arrayOut (e .depth) (e .n) (e .s .now) (e .lim) (e .c .at)) t (c .before .before .twice .last .1 .0) (c .before .before .twice .result)) same (c .before .before .twice .ensures)
+    let twice = c .before .before .twice in
+    let if1 = c .before .before .before .before .if1 in
+    let k = c .before .before .before .before .before .before .k in
+    let same = (subst (Tried (arrayOut (e .depth) (e .n) (e .s .now) (e .lim) (e .c .at)) (e .t .now) (f .last .1 .0)) (k .given .1) (f .ensures)) .kept (if1 .taken) in
+    subst (λ (t : List ℕ). Laid (arrayOut (e .depth) (e .n) (e .s .now) (e .lim) (e .c .at)) t (twice .last .1 .0) (twice .result)) same (twice .ensures)
 
 enum-told : tie.Need-enum-told
 enum-told c = search needs
@@ -49,7 +52,8 @@ returns-3 : tie.Need-returns-3
 returns-3 c =
     let e = c .before .before .before .before .before .before .before .before .before .before .args in
     let f = c .before .before .before .before .before .before .few in
-    (subst (Tried (arrayOut (e .depth) (e .n) (e .s .now) (e .lim) (e .c .at)) (e .t .now) (f .last .1 .0)) (c .before .before .k .given .1) (f .ensures)) .stands (c .if1 .left)
+    let k = c .before .before .k in
+    (subst (Tried (arrayOut (e .depth) (e .n) (e .s .now) (e .lim) (e .c .at)) (e .t .now) (f .last .1 .0)) (k .given .1) (f .ensures)) .stands (c .if1 .left)
 
 same-length-4 : tie.Need-same-length-4
 same-length-4 c = search needs

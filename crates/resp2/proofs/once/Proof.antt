@@ -71,9 +71,12 @@ returns-2 : tie.Need-returns-2
 returns-2 c =
     let e = c .before .before .before .before .before .before .before .before .before .before .before .before .before .before .before .before in
     let f = c .before .before .before .before .before .before .before .before .before .before .array in
+    let putback = c .before .before .put-back in
+    let k = c .before .before .before .before .before .before .k in
+    let front = c .before .before .before .before .before .before .before .before .before .before .before .before .front in
     once-refused (restP (frameP resp2 (e .args .depth)) 0 (holder Array (e .args .n))) (rest-fills (frameP resp2 (e .args .depth)) (frame-fills resp2 (e .args .depth)) 0 (holder Array (e .args .n))) (e .args .n) (e .args .s .now) (e .args .t .now) (f .last .1 .0) (e .args .c .at) (e .pre .few) (e .pre .within) (e .pre .room) (f .kept .1 .0)
-    (subst (Walks (restP (frameP resp2 (e .args .depth)) 0 (holder Array (e .args .n))) (e .args .s .now) (e .args .n + 1) (e .args .c .at) 1 0 (take savedWords (e .args .t .now)) (f .last .1 .0)) (c .before .before .before .before .before .before .k .given .1) (f .ensures))
-    (c .before .before .put-back .ensures ∙ put-back (restP (frameP resp2 (e .args .depth)) 0 (holder Array (e .args .n))) (rest-fills (frameP resp2 (e .args .depth)) (frame-fills resp2 (e .args .depth)) 0 (holder Array (e .args .n))) (e .args .n) (e .args .s .now) (e .args .t .now) (f .last .1 .0) (e .args .c .at) (e .pre .few) (e .pre .within) (e .pre .room) (f .kept .1 .0) (c .before .before .before .before .before .before .before .before .before .before .before .before .front .result) (c .before .before .before .before .before .before .before .before .before .before .before .before .front .ensures))
+    (subst (Walks (restP (frameP resp2 (e .args .depth)) 0 (holder Array (e .args .n))) (e .args .s .now) (e .args .n + 1) (e .args .c .at) 1 0 (take savedWords (e .args .t .now)) (f .last .1 .0)) (k .given .1) (f .ensures))
+    (putback .ensures ∙ put-back (restP (frameP resp2 (e .args .depth)) 0 (holder Array (e .args .n))) (rest-fills (frameP resp2 (e .args .depth)) (frame-fills resp2 (e .args .depth)) 0 (holder Array (e .args .n))) (e .args .n) (e .args .s .now) (e .args .t .now) (f .last .1 .0) (e .args .c .at) (e .pre .few) (e .pre .within) (e .pre .room) (f .kept .1 .0) (front .result) (front .ensures))
 
 same-length-3 : tie.Need-same-length-3
 same-length-3 c = search needs
@@ -82,9 +85,12 @@ returns-3 : tie.Need-returns-3
 returns-3 c =
     let e = c .before .before .before .before .before .before .before .before .before .before .before .before .before .before .before in
     let f = c .before .before .before .before .before .before .before .before .before .array in
+    let putback2 = c .before .before .put-back2 in
+    let enumtold = c .before .before .before .before .before .enum-told in
+    let front = c .before .before .before .before .before .before .before .before .before .before .before .front in
     once-unfinished (restP (frameP resp2 (e .args .depth)) 0 (holder Array (e .args .n))) (rest-fills (frameP resp2 (e .args .depth)) (frame-fills resp2 (e .args .depth)) 0 (holder Array (e .args .n))) (e .args .n) (e .args .s .now) (e .args .t .now) (f .last .1 .0) (e .args .c .at) (e .pre .few) (e .pre .within) (e .pre .room) (f .kept .1 .0)
-    (subst (Walks (restP (frameP resp2 (e .args .depth)) 0 (holder Array (e .args .n))) (e .args .s .now) (e .args .n + 1) (e .args .c .at) 1 0 (take savedWords (e .args .t .now)) (f .last .1 .0)) (c .before .before .before .before .before .enum-told .given .1) (f .ensures))
-    (c .before .before .put-back2 .ensures ∙ put-back (restP (frameP resp2 (e .args .depth)) 0 (holder Array (e .args .n))) (rest-fills (frameP resp2 (e .args .depth)) (frame-fills resp2 (e .args .depth)) 0 (holder Array (e .args .n))) (e .args .n) (e .args .s .now) (e .args .t .now) (f .last .1 .0) (e .args .c .at) (e .pre .few) (e .pre .within) (e .pre .room) (f .kept .1 .0) (c .before .before .before .before .before .before .before .before .before .before .before .front .result) (c .before .before .before .before .before .before .before .before .before .before .before .front .ensures))
+    (subst (Walks (restP (frameP resp2 (e .args .depth)) 0 (holder Array (e .args .n))) (e .args .s .now) (e .args .n + 1) (e .args .c .at) 1 0 (take savedWords (e .args .t .now)) (f .last .1 .0)) (enumtold .given .1) (f .ensures))
+    (putback2 .ensures ∙ put-back (restP (frameP resp2 (e .args .depth)) 0 (holder Array (e .args .n))) (rest-fills (frameP resp2 (e .args .depth)) (frame-fills resp2 (e .args .depth)) 0 (holder Array (e .args .n))) (e .args .n) (e .args .s .now) (e .args .t .now) (f .last .1 .0) (e .args .c .at) (e .pre .few) (e .pre .within) (e .pre .room) (f .kept .1 .0) (front .result) (front .ensures))
 
 pub once-spec : {M : Type 1} → statement M
 once-spec =

@@ -20,7 +20,9 @@ enum-known-n c = search needs
 fill-requires : tie.Need-fill-requires
 fill-requires c κs =
     let e = c .before .before .before .before .before .before .before .before in
-    let w = (subst (Counts false Array (e .args .s .now) (e .args .c .at)) (c .before .before .n .given .1) (c .before .before .before .before .length-head .ensures)) in
+    let n = c .before .before .n in
+    let lengthhead = c .before .before .before .before .length-head in
+    let w = (subst (Counts false Array (e .args .s .now) (e .args .c .at)) (n .given .1) (lengthhead .ensures)) in
     record { within = count-within false Array (e .args .s .now) (e .args .c .at) _ _ (e .pre .within) w; counted = e .pre .counted; one = e .pre .one; lent = e .pre .lent }
 
 enum-known-l : tie.Need-enum-known-l
@@ -35,8 +37,12 @@ same-length c = search needs
 returns : tie.Need-returns
 returns c =
     let e = c .before .before .before .before .before .before .before .before .before .before .before in
-    top-count (e .args .depth) (e .args .k) (e .args .s .now) (e .args .lim) (e .args .c .at) (c .before .before .before .before .before .before .before .before .if1 .taken)
-    (subst (Counts false Array (e .args .s .now) (e .args .c .at)) (c .before .before .before .before .before .n .given .1) (c .before .before .before .before .before .before .before .length-head .ensures)) (c .before .before .fill .ensures)
+    let fill = c .before .before .fill in
+    let n = c .before .before .before .before .before .n in
+    let lengthhead = c .before .before .before .before .before .before .before .length-head in
+    let if1 = c .before .before .before .before .before .before .before .before .if1 in
+    top-count (e .args .depth) (e .args .k) (e .args .s .now) (e .args .lim) (e .args .c .at) (if1 .taken)
+    (subst (Counts false Array (e .args .s .now) (e .args .c .at)) (n .given .1) (lengthhead .ensures)) (fill .ensures)
 
 same-length-2 : tie.Need-same-length-2
 same-length-2 c = search needs
@@ -44,8 +50,12 @@ same-length-2 c = search needs
 returns-2 : tie.Need-returns-2
 returns-2 c =
     let e = c .before .before .before .before .before .before .before .before .before .before .before in
-    top-null (e .args .depth) (e .args .k) (e .args .s .now) (e .args .lim) (e .args .c .at) _ (e .pre .counted) (e .pre .one) (c .before .before .leaf-row .ensures) (c .before .before .before .before .before .before .before .before .if1 .taken)
-    (subst (Counts false Array (e .args .s .now) (e .args .c .at)) (c .before .before .before .before .before .l .given .1) (c .before .before .before .before .before .before .before .length-head .ensures))
+    let leafrow = c .before .before .leaf-row in
+    let l = c .before .before .before .before .before .l in
+    let lengthhead = c .before .before .before .before .before .before .before .length-head in
+    let if1 = c .before .before .before .before .before .before .before .before .if1 in
+    top-null (e .args .depth) (e .args .k) (e .args .s .now) (e .args .lim) (e .args .c .at) _ (e .pre .counted) (e .pre .one) (leafrow .ensures) (if1 .taken)
+    (subst (Counts false Array (e .args .s .now) (e .args .c .at)) (l .given .1) (lengthhead .ensures))
 
 leaf-head-requires : tie.Need-leaf-head-requires
 leaf-head-requires c κs = search needs
@@ -59,7 +69,10 @@ same-length-3 c = search needs
 returns-3 : tie.Need-returns-3
 returns-3 c =
     let e = c .before .before .before .before .before .before .before .before in
-    top-leaf (e .args .depth) (e .args .k) (e .args .s .now) (e .args .lim) (e .args .c .at) _ (e .pre .counted) (e .pre .one) (c .before .before .leaf-row2 .ensures) (c .before .before .before .before .before .if1 .left) (c .before .before .before .leaf-head .ensures)
+    let leafrow2 = c .before .before .leaf-row2 in
+    let leafhead = c .before .before .before .leaf-head in
+    let if1 = c .before .before .before .before .before .if1 in
+    top-leaf (e .args .depth) (e .args .k) (e .args .s .now) (e .args .lim) (e .args .c .at) _ (e .pre .counted) (e .pre .one) (leafrow2 .ensures) (if1 .left) (leafhead .ensures)
 
 pub top-spec : {M : Type 1} → statement M
 top-spec =

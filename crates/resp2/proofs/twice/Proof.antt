@@ -40,8 +40,10 @@ returns : tie.Need-returns
 returns c =
     let e = c .before .before .before .before .before .before .before .before .before .before .before .before in
     let f = c .before .before .before .before .before .before .before .before .array in
+    let array2 = c .before .before .array2 in
+    let enumtold = c .before .before .before .before .enum-told in
     written (restP (frameP resp2 (e .args .depth)) 0 (holder Array (e .args .n))) (e .args .s .now) (e .args .t .now) (f .last .1 .0) (e .args .lim) (e .args .c .at) 1 (e .pre .counted) (f .kept .1 .0)
-    (subst (Walks (restP (frameP resp2 (e .args .depth)) 0 (holder Array (e .args .n))) (e .args .s .now) (e .args .lim) (e .args .c .at) 1 0 [] (f .last .1 .0)) (c .before .before .before .before .enum-told .given .1) (f .ensures)) (c .before .before .array2 .ensures)
+    (subst (Walks (restP (frameP resp2 (e .args .depth)) 0 (holder Array (e .args .n))) (e .args .s .now) (e .args .lim) (e .args .c .at) 1 0 [] (f .last .1 .0)) (enumtold .given .1) (f .ensures)) (array2 .ensures)
 
 same-length-2 : tie.Need-same-length-2
 same-length-2 c = search needs
