@@ -12,6 +12,7 @@ pub mod Digits
 pub mod Tree
 pub mod Encode
 pub mod Samples
+pub mod RuleSamples
 pub mod Cells
 pub mod DemandLaws
 pub mod ProgLaws

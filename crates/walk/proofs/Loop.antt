@@ -5,7 +5,7 @@ use Prim.Native.Nat.{ℕ, suc, _+_, _-_, _*_, _≤_, _<_}
 use native.Mathlib.Omega.{arith}
 use lib.ListN.{length}
 use lib.Seq.{sets}
-use borrow.Author.Tests.{ne-eqb}
+use borrow.Author.Tests.{eq-eqb, ne-eqb}
 use Rattle.meaning.specs.Prog.{Prog, run, Out, done, refused, unfinished}
 use Rattle.meaning.specs.ProgLaws.{then, Within, bounded, Weighs, weighs-run}
 use Rattle.meaning.specs.Kinds.{Marker}
@@ -67,6 +67,9 @@ module _ {p : Prog Forest} {s t₀ : List ℕ} {lim n at₀ used₀ : ℕ} {t : 
 
   pub loop-unfinished : i < n → run p s lim at used ≡ unfinished → run (framesP n p) s lim at₀ used₀ ≡ unfinished
   loop-unfinished h e = loop-more h ∙ rw e
+
+  pub loop-marker : i < n → {f : Forest} {a u : ℕ} → run p s lim at used ≡ done f a u → frameKind f ≡ Marker → run (framesP n p) s lim at₀ used₀ ≡ refused 6 a
+  loop-marker h {f} e m = loop-more h ∙ rw (e, eq-eqb (frameKind f) Marker m)
 
   pub loop-end : n ≤ i → run (framesP n p) s lim at₀ used₀ ≡ done (l .read) at used
   loop-end h =
