@@ -44,6 +44,8 @@ struct decode_case {
 /* fields by name, so that their order in the header matters */
 #define FRAME(bytes, count) \
     { .answer = IMRAZGUL_FRAME, .refusal = 0, .consumed = bytes, .rows = count }
+#define MARKER(bytes, count) \
+    { .answer = IMRAZGUL_MARKER, .refusal = 0, .consumed = bytes, .rows = count }
 #define UNFINISHED \
     { .answer = IMRAZGUL_UNFINISHED, .refusal = 0, .consumed = 0, .rows = 0 }
 #define REFUSED(why) \
@@ -109,6 +111,61 @@ static const struct decode_case resp2[] = {
     {"+OK\r\n", 5, 6, FRAME(5, 1), ROWS(1, 1, 3, 0, 1, 0)},
     {"*1\r\n:7\r\n", 8, 11, REFUSED(IMRAZGUL_TABLE_FULL), NONE},
     {"*1\r\n:7\r\n", 8, 12, FRAME(8, 2), ROWS(13, 0, 0, 1, 2, 0, 3, 7, 0, 0, 1, 0)},
+};
+
+/* What both RESP3 decoders answer. */
+static const struct decode_case resp3[] = {
+    /* 0: the kinds that RESP2 hasn't, and where their words stand */
+    {",-1.5e3\r\n", 9, 12, FRAME(9, 1), ROWS(4, 1, 7, 0, 1, 0)},
+    {"#t\r\n", 4, 12, FRAME(4, 1), ROWS(5, 1, 0, 0, 1, 0)},
+    {"#f\r\n", 4, 12, FRAME(4, 1), ROWS(5, 0, 0, 0, 1, 0)},
+    {"_\r\n", 3, 12, FRAME(3, 1), ROWS(6, 0, 0, 0, 1, 0)},
+    {"!3\r\nERR\r\n", 9, 12, FRAME(9, 1), ROWS(8, 4, 7, 0, 1, 0)},
+    {"=6\r\ntxt:hi\r\n", 12, 12, FRAME(12, 1), ROWS(9, 8, 10, 1, 1, 0)},
+    {"=4\r\nmkd:\r\n", 10, 12, FRAME(10, 1), ROWS(9, 8, 8, 2, 1, 0)},
+    {"(12\r\n", 5, 12, FRAME(5, 1), ROWS(10, 1, 3, 0, 1, 0)},
+    {";2\r\nhi\r\n", 8, 12, FRAME(8, 1), ROWS(11, 4, 6, 0, 1, 0)},
+    {";0\r\n", 4, 12, FRAME(4, 1), ROWS(12, 0, 0, 0, 1, 0)},
+    {".\r\n", 3, 12, FRAME(3, 1), ROWS(12, 0, 0, 0, 1, 0)},
+    {"%1\r\n+a\r\n:1\r\n", 12, 18, FRAME(12, 3), ROWS(14, 0, 0, 2, 3, 0, 1, 5, 6, 0, 1, 0, 3, 1, 0, 0, 1, 0)},
+    {"~2\r\n:1\r\n:1\r\n", 12, 18, FRAME(12, 3), ROWS(15, 0, 0, 2, 3, 0, 3, 1, 0, 0, 1, 0, 3, 1, 0, 0, 1, 0)},
+    {">1\r\n_\r\n", 7, 12, FRAME(7, 2), ROWS(16, 0, 0, 1, 2, 0, 6, 0, 0, 0, 1, 0)},
+    {"HELLO 3 AUTH u pw SETNAME n\r\n", 29, 24, FRAME(29, 4),
+     ROWS(18, 0, 0, 3, 4, 0, 20, 13, 14, 0, 1, 0, 21, 15, 17, 0, 1, 0, 22, 26, 27, 0, 1, 0)},
+    /* 15: an attribute at the top, and one before a value, within the Map's span */
+    {"|1\r\n+a\r\n:1\r\n:2\r\n", 16, 24, FRAME(16, 4),
+     ROWS(17, 0, 0, 2, 3, 0, 1, 5, 6, 0, 1, 0, 3, 1, 0, 0, 1, 0, 3, 2, 0, 0, 1, 1)},
+    {"%1\r\n+a\r\n|0\r\n:2\r\n", 16, 24, FRAME(16, 4),
+     ROWS(14, 0, 0, 2, 4, 0, 1, 5, 6, 0, 1, 0, 17, 0, 0, 0, 1, 0, 3, 2, 0, 0, 1, 3)},
+    /* 17: unfinished, with counts that no table holds */
+    {"%9223372036854775807\r\n", 22, 12, UNFINISHED, NONE},
+    {"|18446744073709551615\r\n", 23, 12, UNFINISHED, NONE},
+    {">18446744073709551615\r\n", 23, 12, UNFINISHED, NONE},
+    {"%1\r\n*0\r\n:1\r\n", 11, 18, UNFINISHED, NONE},
+    {"HX\r\n", 3, 12, UNFINISHED, NONE},
+    /* 22: each refusal */
+    {"?1\r\n", 4, 12, REFUSED(IMRAZGUL_BAD_TYPE), NONE},
+    {"!-1\r\n", 5, 12, REFUSED(IMRAZGUL_BAD_LENGTH), NONE},
+    {"#x\r\n", 4, 12, REFUSED(IMRAZGUL_BAD_VALUE), NONE},
+    {"=3\r\ntxt:", 8, 12, REFUSED(IMRAZGUL_BAD_VERBATIM), NONE},
+    {"HELLO 4\r\n", 9, 12, REFUSED(IMRAZGUL_BAD_HELLO), NONE},
+    {"*1\r\n$?\r\n", 8, 12, REFUSED(IMRAZGUL_BAD_MARKER), NONE},
+    {"|0\r\n|", 5, 12, REFUSED(IMRAZGUL_TWO_ATTRIBUTES), NONE},
+    {"%1\r\n*0\r\n:1\r\n", 12, 18, REFUSED(IMRAZGUL_BAD_KEY), NONE},
+    {"|0\r\n_\r\n", 7, 12, REFUSED(IMRAZGUL_BAD_ANNOTATED), NONE},
+    {"%1\r\n*0\r\n:1\r\n", 8, 12, REFUSED(IMRAZGUL_TABLE_FULL), NONE},
+    {"HELLO 3 AUTH u pw\r\n", 19, 12, REFUSED(IMRAZGUL_TABLE_FULL), NONE},
+};
+
+/* A marker at the top, alone and with an attribute: the one thing in which the two differ. */
+static const struct decode_case resp3_complete[] = {
+    {"$?\r\n", 4, 12, REFUSED(IMRAZGUL_BAD_MARKER), NONE},
+    {"|0\r\n*?\r\n", 8, 12, REFUSED(IMRAZGUL_BAD_MARKER), NONE},
+};
+
+static const struct decode_case resp3_streaming[] = {
+    {"$?\r\n", 4, 12, MARKER(4, 1), ROWS(19, 0, 0, 7, 1, 0)},
+    {"|0\r\n*?\r\n", 8, 12, MARKER(8, 2), ROWS(17, 0, 0, 0, 1, 0, 19, 0, 0, 13, 1, 1)},
 };
 
 /* Puts a text, and a number in four digits, at the end of a source that is being made. */
@@ -236,6 +293,14 @@ int main(void) {
     all_decode("imrazgul_resp2_decode", imrazgul_resp2_decode, resp2, COUNT(resp2));
     depth("imrazgul_resp2_decode by depth", imrazgul_resp2_decode);
     rows_that_count("imrazgul_resp2_decode by rows", imrazgul_resp2_decode);
+    all_decode("imrazgul_resp3_decode", imrazgul_resp3_decode, resp3, COUNT(resp3));
+    all_decode("imrazgul_resp3_decode at a marker", imrazgul_resp3_decode, resp3_complete, COUNT(resp3_complete));
+    depth("imrazgul_resp3_decode by depth", imrazgul_resp3_decode);
+    rows_that_count("imrazgul_resp3_decode by rows", imrazgul_resp3_decode);
+    all_decode("imrazgul_resp3_stream", imrazgul_resp3_stream, resp3, COUNT(resp3));
+    all_decode("imrazgul_resp3_stream at a marker", imrazgul_resp3_stream, resp3_streaming, COUNT(resp3_streaming));
+    depth("imrazgul_resp3_stream by depth", imrazgul_resp3_stream);
+    rows_that_count("imrazgul_resp3_stream by rows", imrazgul_resp3_stream);
     u64_digits();
     i64_digits();
     printf("calls from C: %u looks, %u wrong\n", looks, wrong);

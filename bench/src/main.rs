@@ -14,12 +14,6 @@ use work::Work;
 
 type Decode = fn(&[u8], &mut [u64]) -> imrazgul::Decoded;
 
-/// Our RESP3 decoders, complete and streaming.
-#[cfg(feature = "resp3")]
-const RESP3: Option<[Decode; 2]> = Some([imrazgul::resp3_decode, imrazgul::resp3_stream]);
-#[cfg(not(feature = "resp3"))]
-const RESP3: Option<[Decode; 2]> = None;
-
 /// A way to decode all frames of a work once; false where it gives another answer than the work says.
 type Run<'a> = Box<dyn FnMut() -> bool + 'a>;
 
@@ -155,11 +149,11 @@ fn decoders(works: &[Work], millis: u64) {
             let ways = vec![
                 two(ours(w, imrazgul::resp2_decode)),
                 two(theirs(w, resp2::decode::decode_range)),
-                RESP3.map(|f| ours(w, f[0])),
-                RESP3.map(|_| theirs(w, resp3::decode::complete::decode_range)),
+                Some(ours(w, imrazgul::resp3_decode)),
+                Some(theirs(w, resp3::decode::complete::decode_range)),
                 two(hiredis(w, true)),
                 two(hiredis(w, false)),
-                RESP3.map(|f| ours(w, f[1])),
+                Some(ours(w, imrazgul::resp3_stream)),
             ];
             eprintln!("  {}", w.name);
             (w, least(ways, millis, w.frames))
@@ -181,9 +175,6 @@ fn decoders(works: &[Work], millis: u64) {
             ns(t[5]),
             ratio(t[0], t[5])
         );
-    }
-    if RESP3.is_none() {
-        return println!("\nRESP3: the library has no resp3 decoder yet.");
     }
     println!("\n## RESP3: nanoseconds a call, and ours by theirs\n");
     println!("hiredis reads the same bytes as RESP2: the version measured has no RESP3.\n");
@@ -228,7 +219,7 @@ fn stacks(works: &[Work]) {
             "| {name} | {} | {} | {} | {} | {encode} |",
             decode(imrazgul::resp2_decode),
             stack::used(move || drop(black_box(resp2::decode::decode_range(bytes)))),
-            RESP3.map_or("–".into(), |f| decode(f[0]).to_string()),
+            decode(imrazgul::resp3_decode),
             stack::used(move || drop(black_box(resp3::decode::complete::decode_range(bytes)))),
         );
     }

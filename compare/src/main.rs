@@ -37,7 +37,7 @@ impl Keys {
 }
 
 /// Ends where a mode needs a call that the library does not have.
-#[cfg(feature = "ours")]
+#[cfg(all(feature = "ours", not(feature = "encode")))]
 fn absent(mode: &str, what: &str) -> ! {
     eprintln!("{mode}: the library has no {what} yet");
     std::process::exit(2);
@@ -49,7 +49,6 @@ fn mode(name: &str, keys: &Keys) -> Option<bool> {
         use theirs::Protocol;
         match name {
             "resp2" => return Some(decode::run(Protocol::Resp2, keys)),
-            "resp3" | "stream" if !cfg!(feature = "resp3") => absent(name, "resp3 decoder"),
             "resp3" => return Some(decode::run(Protocol::Resp3, keys)),
             "stream" => return Some(decode::run(Protocol::Stream, keys)),
             #[cfg(feature = "encode")]

@@ -41,12 +41,8 @@ impl Table {
 pub fn decode(protocol: Protocol, buf: &[u8], table: &mut [u64]) -> Decoded {
     match protocol {
         Protocol::Resp2 => imrazgul::resp2_decode(buf, table),
-        #[cfg(feature = "resp3")]
         Protocol::Resp3 => imrazgul::resp3_decode(buf, table),
-        #[cfg(feature = "resp3")]
         Protocol::Stream => imrazgul::resp3_stream(buf, table),
-        #[cfg(not(feature = "resp3"))]
-        Protocol::Resp3 | Protocol::Stream => unreachable!("the mode is not run"),
     }
 }
 

@@ -1,5 +1,5 @@
-//! Safe calls of the decoder and encoder that `rt staticlib imrazgul` builds; the features name calls that a library may not
-//! have yet.
+//! Safe calls of the decoder and encoder that `rt staticlib imrazgul` builds; the feature names calls that a
+//! library may not have yet.
 //!
 //! A table is lent by the caller: 6 words a row, at most 4,096 rows. docs/RULES.md, 1.2, has the meaning of its words.
 #![no_std]
@@ -65,9 +65,7 @@ mod raw {
 
     extern "C" {
         pub fn imrazgul_resp2_decode(src: *const u8, src_len: usize, table: *mut u64, words: usize) -> Decoded;
-        #[cfg(feature = "resp3")]
         pub fn imrazgul_resp3_decode(src: *const u8, src_len: usize, table: *mut u64, words: usize) -> Decoded;
-        #[cfg(feature = "resp3")]
         pub fn imrazgul_resp3_stream(src: *const u8, src_len: usize, table: *mut u64, words: usize) -> Decoded;
         #[cfg(feature = "encode")]
         pub fn imrazgul_resp2_encode(
@@ -102,14 +100,12 @@ pub fn resp2_decode(src: &[u8], table: &mut [u64]) -> Decoded {
 }
 
 /// Decodes the RESP3 frame that `src` begins with; a streaming marker is refused.
-#[cfg(feature = "resp3")]
 #[inline]
 pub fn resp3_decode(src: &[u8], table: &mut [u64]) -> Decoded {
     unsafe { raw::imrazgul_resp3_decode(src.as_ptr(), src.len(), table.as_mut_ptr(), table.len()) }
 }
 
 /// Decodes the RESP3 frame or streaming marker that `src` begins with.
-#[cfg(feature = "resp3")]
 #[inline]
 pub fn resp3_stream(src: &[u8], table: &mut [u64]) -> Decoded {
     unsafe { raw::imrazgul_resp3_stream(src.as_ptr(), src.len(), table.as_mut_ptr(), table.len()) }

@@ -24,10 +24,7 @@ fn decode(f: Decoder, src: &[u8]) -> (Decoded, [u64; 13]) {
 }
 
 /// The decoders that the library has.
-#[cfg(feature = "resp3")]
 const DECODERS: &[Decoder] = &[resp2_decode, resp3_decode, resp3_stream];
-#[cfg(not(feature = "resp3"))]
-const DECODERS: &[Decoder] = &[resp2_decode];
 
 /// A table of 13 words that begins with these.
 fn words(first: &[u64]) -> [u64; 13] {
@@ -50,7 +47,6 @@ fn p4_minus_one_in_resp2() {
     assert_eq!(decode(resp2_decode, b"$-1\r\n"), (frame(5, 1), words(&[6, 0, 0, 0, 1, 0])));
 }
 
-#[cfg(feature = "resp3")]
 #[test]
 fn p4_minus_one_in_resp3() {
     assert_eq!(decode(resp3_decode, b"$-1\r\n"), (refused(6), words(&[])));

@@ -1,6 +1,6 @@
 // The calls that C and Rust link: each is thin, and asks nothing of its caller.
 use answers::Told;
-ghost use Rattle.meaning.specs.Kinds.{resp2};
+ghost use Rattle.meaning.specs.Kinds.{resp2, resp3, resp3-stream};
 ghost use Rattle.meaning.specs.Digits.{digitsOf, signedDigitsOf};
 ghost use Rattle.imrazgul.specs.Calls.{DecodeCall, DigitsCall};
 
@@ -10,6 +10,22 @@ pub extern "C" fn imrazgul_resp2_decode(src: &[u8], table: &mut [u64]) -> Told
     ensures { λ r. ⌜ DecodeCall resp2 (now (src .entry)) 0 (now (table .entry)) (now (table .exit)) r ⌝ }
 {
     answers::numbers_of(resp2::decode(src, table))
+}
+
+// RESP3, complete: one frame from the front of src, its rows in table; a marker is refused.
+#[no_mangle]
+pub extern "C" fn imrazgul_resp3_decode(src: &[u8], table: &mut [u64]) -> Told
+    ensures { λ r. ⌜ DecodeCall resp3 (now (src .entry)) 0 (now (table .entry)) (now (table .exit)) r ⌝ }
+{
+    answers::numbers_of(resp3::complete(src, table))
+}
+
+// RESP3, streaming: one frame or marker from the front of src, its rows in table.
+#[no_mangle]
+pub extern "C" fn imrazgul_resp3_stream(src: &[u8], table: &mut [u64]) -> Told
+    ensures { λ r. ⌜ DecodeCall resp3-stream (now (src .entry)) 0 (now (table .entry)) (now (table .exit)) r ⌝ }
+{
+    answers::numbers_of(resp3::streaming(src, table))
 }
 
 // The digits of n in 20 bytes; gives how many of them are unused.

@@ -143,7 +143,7 @@ rest-fills p h w (greeting v f) = rooms-fill (span f) 1 (ret (item (nodeOf 18 0 
 rest-fills p h w (holder k n) =
     weighs-bind (λ f. span f + 1) span (heldP p k n) _ 1 (fills-later (heldP p k n) (held-fills p h k n) 1) (λ f. omega arith)
 
-body-fills : (π : Profile) (p : Prog Forest) → Weighs 0 span p → (w k : ℕ) → Weighs 1 span (bodyP π p w k)
+pub body-fills : (π : Profile) (p : Prog Forest) → Weighs 0 span p → (w k : ℕ) → Weighs 1 span (bodyP π p w k)
 body-fills π p h w k = weighs-bind (λ st. 1) span (headP π k) (restP p w) 1 (says-weighs (Proper π k) (headP π k) 1 (head-says π k)) (rest-fills p h w)
 
 annotated-fills : (π : Profile) (p : Prog Forest) → Weighs 0 span p → (w : ℕ) (a : Forest) → Weighs (span a) span (annotatedP π p w a)

@@ -58,7 +58,7 @@ behind p s lim from at used {w} h k l e = subst (Behind from) (sym e) (go (run p
 
 -- ---- twice: first without a table
 
-none-left : (l t : List ℕ) → length l ≡ 0 → l ++ t ≡ t
+pub none-left : (l t : List ℕ) → length l ≡ 0 → l ++ t ≡ t
 none-left [] t e = refl
 none-left (a ∷ l) t e = absurd (omega arith)
 

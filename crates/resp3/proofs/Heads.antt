@@ -1,0 +1,155 @@
+-- A RESP3 frame's first lines, by the answers of the leaves and lengths below them.
+use mathlib.Core.Path.{_≡_, refl, sym, ap, subst, _∙_}
+use mathlib.Core.List.{List}
+use mathlib.Core.Bool.{Bool, true, false}
+use Prim.Native.Nat.{ℕ, _≤_, _<_}
+use native.Mathlib.Omega.{arith}
+use lib.ListN.{length}
+use lib.Dec.{ltb, eqb}
+use borrow.Author.Tests.{eq-eqb, ne-eqb, le-leb, lt-leb, ltb-true, ltb-false}
+use Rattle.meaning.specs.Choice.{pick}
+use Rattle.meaning.specs.Prog.{Prog, ret, refuse, run, Out}
+use Rattle.meaning.specs.ProgLaws.{Bounded, bounded}
+use Rattle.meaning.specs.Kinds.{Profile, resp3, Number, Verbatim, ChunkedString, Array, Hello}
+use Rattle.meaning.specs.Frames.{Step, leaf, numberP, lengthP, bulkP, verbatimP, chunkP, headP}
+use Rattle.text.specs.Numbers.{ShortLine}
+use Rattle.text.specs.declared.Cursor.{Cursor}
+use Rattle.leaf.specs.Leaves.{Reads, Counts}
+use Rattle.leaf.specs.declared.Leaf.{Leaf}
+use Rattle.leaf.specs.declared.Leaf.the-variants as Leaf
+use Rattle.leaf.specs.declared.Counted.the-variants as Counted
+use Rattle.leaf.proofs.Leaves.{short-number, short-count}
+use Rattle.leaf3.specs.Answers.{Greets}
+use Rattle.leaf3.specs.declared.Greeted.{Greeted}
+use Rattle.resp3.specs.Heads.{Heads, Says, outHead, countedP, numericP, shortP, plainP, onDigits, kindP}
+use Rattle.resp3.specs.declared.head.Head.{Head}
+use Rattle.resp3.specs.declared.head.Head.the-variants as Head
+
+-- a leaf is a head, wherever its frame begins
+pub leaf-says : {p : Prog Step} {s : List ℕ} {at : ℕ} {l : Leaf} (k : ℕ) → Reads p s at l → Says p k s at (Head.Leaf l)
+leaf-says k w = record { means = λ from. w .means; places = λ from. tt }
+
+pub unknown : (s : List ℕ) (at : ℕ) → Reads (refuse 1) s at (Leaf.Refused 1 at)
+unfolding run
+unknown s at = record { means = λ lim used. refl }
+
+-- where a head ends
+pub head-within : {k : ℕ} {s : List ℕ} {at : ℕ} {h : Head} → at ≤ length s → Heads k s at h → Bounded s 0 at 0 (outHead k at 0 h)
+head-within {k} {s} {at} l w = subst (λ (o : Out Step). Bounded s 0 at 0 o) (w .means 0 0) (bounded (headP resp3 k) s 0 at 0 l (omega arith))
+
+-- ---- behind a length
+
+module _ (s : List ℕ) (k n : ℕ) (c : Cursor) where
+  pub counted-holder : Array ≤ k → Says (countedP k n) k s (c .at) (Head.Holder n c)
+  unfolding run
+  counted-holder h = rw (le-leb Array k h) (record { means = λ from lim used. refl; places = λ from. tt })
+
+  pub counted-verbatim : {l : Leaf} → k ≡ Verbatim → ((π : Profile) → Reads (verbatimP π n) s (c .at) l) → Says (countedP k n) k s (c .at) (Head.Leaf l)
+  counted-verbatim e w = rw (lt-leb Array k (omega arith), eq-eqb k Verbatim e) (leaf-says k (w resp3))
+
+  pub counted-chunk : {l : Leaf} → k ≡ ChunkedString → ((π : Profile) → Reads (chunkP π n) s (c .at) l) → Says (countedP k n) k s (c .at) (Head.Leaf l)
+  counted-chunk e w = rw (lt-leb Array k (omega arith), ne-eqb k Verbatim (λ f. omega arith), eq-eqb k ChunkedString e) (leaf-says k (w resp3))
+
+  pub counted-text : {l : Leaf} → k < Array → (k ≡ Verbatim → ⊥) → (k ≡ ChunkedString → ⊥) → ((π : Profile) → Reads (bulkP π k n) s (c .at) l) → Says (countedP k n) k s (c .at) (Head.Leaf l)
+  counted-text h d e w = rw (lt-leb Array k h, ne-eqb k Verbatim d, ne-eqb k ChunkedString e) (leaf-says k (w resp3))
+
+module _ (s : List ℕ) (at k : ℕ) where
+  -- a count, and then what it is for
+  pub length-count : {n : ℕ} {c : Cursor} {h : Head} → Counts true k s at (Counted.Count n c) → Says (countedP k n) k s (c .at) h → Says (lengthP resp3 k (countedP k)) k s at h
+  length-count w v = record { means = λ from lim used. w .means resp3 refl (countedP k) lim used ∙ v .means from lim used; places = v .places }
+
+  pub length-other : {l : Leaf} → Counts true k s at (Counted.Not l) → Says (lengthP resp3 k (countedP k)) k s at (Head.Leaf l)
+  length-other w = record { means = λ from. w .means resp3 refl (countedP k); places = λ from. tt }
+
+  -- ---- a Number, or a sized kind
+
+  pub numeric-number : {l : Leaf} → k ≡ Number → Reads (numberP resp3) s at l → Says (numericP k) k s at (Head.Leaf l)
+  numeric-number e w = rw (eq-eqb k Number e) (leaf-says k w)
+
+  pub numeric-length : {h : Head} → (k ≡ Number → ⊥) → Says (lengthP resp3 k (countedP k)) k s at h → Says (numericP k) k s at h
+  numeric-length e w = rw (ne-eqb k Number e) w
+
+-- behind a short line worth v
+module _ (s : List ℕ) (k v : ℕ) (c : Cursor) where
+  pub short-value : k ≡ Number → Says (shortP k v) k s (c .at) (Head.Leaf (Leaf.Row Number v 0 0 c))
+  unfolding run
+  short-value e = rw (eq-eqb k Number e) (record { means = λ from lim used. refl; places = λ from. tt })
+
+  pub short-length : {h : Head} → (k ≡ Number → ⊥) → Says (countedP k v) k s (c .at) h → Says (shortP k v) k s (c .at) h
+  short-length e w = rw (ne-eqb k Number e) w
+
+  -- it says what the line of any length says
+  pub short-numeric : {most at : ℕ} {h : Head} → ShortLine most s at v (c .at) → Says (shortP k v) k s (c .at) h → Says (numericP k) k s at h
+  unfolding run
+  short-numeric {most} {at} {h} w = go (eqb k Number)
+    where
+      go : (b : Bool) → Says (pick b (ret (leaf Number v 0 0)) (countedP k v)) k s (c .at) h → Says (pick b (numberP resp3) (lengthP resp3 k (countedP k))) k s at h
+      go true x = record { means = λ from lim used. short-number s at v c w resp3 .means lim used ∙ x .means from lim used; places = x .places }
+      go false x = length-count s at k (short-count s at v c w true k) x
+
+-- ---- by the kind
+
+abbrev Asks : ℕ → Type 0
+Asks k = headP resp3 k ≡ kindP k
+
+-- no kind above HELLO's has a type byte
+above : (k : ℕ) → Hello < k → Asks k
+unfolding headP
+above k h =
+    rw (
+      ne-eqb k 1 (λ e. omega arith),
+      ne-eqb k 2 (λ e. omega arith),
+      ne-eqb k 10 (λ e. omega arith),
+      ne-eqb k 3 (λ e. omega arith),
+      ne-eqb k 7 (λ e. omega arith),
+      ne-eqb k 8 (λ e. omega arith),
+      ne-eqb k 6 (λ e. omega arith),
+      ne-eqb k 12 (λ e. omega arith),
+      ne-eqb k 5 (λ e. omega arith),
+      ne-eqb k 4 (λ e. omega arith),
+      ne-eqb k 9 (λ e. omega arith),
+      ne-eqb k 11 (λ e. omega arith),
+      ne-eqb k 13 (λ e. omega arith),
+      ne-eqb k 14 (λ e. omega arith),
+      ne-eqb k 15 (λ e. omega arith),
+      ne-eqb k 16 (λ e. omega arith),
+      ne-eqb k 17 (λ e. omega arith),
+      ne-eqb k 18 (λ e. omega arith),
+      le-leb 7 k (omega arith),
+      lt-leb k 9 (omega arith),
+      le-leb 13 k (omega arith),
+      lt-leb k 17 (omega arith),
+    )
+
+-- n, or one above it
+up : (k n : ℕ) → Asks n → (n < k → Asks k) → n ≤ k → Asks k
+up k n here more h = go (ltb n k) refl
+  where
+    go : (b : Bool) → ltb n k ≡ b → Asks k
+    go true e = more (ltb-true n k e)
+    go false e = let l : k ≤ n = ltb-false n k e in let p : n ≡ k = omega arith in subst Asks p here
+
+-- what RESP3's kinds ask for
+by-kind : (k : ℕ) → Asks k
+unfolding headP
+by-kind k =
+    up k 0 refl
+    (up k 1 refl (up k 2 refl (up k 3 refl (up k 4 refl (up k 5 refl (up k 6 refl (up k 7 refl (up k 8 refl (up k 9 refl
+    (up k 10 refl (up k 11 refl (up k 12 refl (up k 13 refl (up k 14 refl (up k 15 refl (up k 16 refl (up k 17 refl (up k 18 refl (above k))))))))))))))))))) (omega arith)
+
+module _ (s : List ℕ) (at k : ℕ) where
+  pub kind-digits : {h : Head} → onDigits k ≡ true → Says (numericP k) k s at h → Heads k s at h
+  kind-digits e w = record {
+    means = λ lim used. ap (λ (p : Prog Step). run p s lim at used) (by-kind k ∙ rw e) ∙ w .means at lim used;
+    places = w .places at;
+  }
+
+  pub kind-hello : {g : Greeted} → k ≡ Hello → Greets s at g → Heads k s at (Head.Hello g)
+  unfolding headP
+  kind-hello e w = rw e (record { means = w .means resp3; places = w .places })
+
+  pub kind-plain : {l : Leaf} → onDigits k ≡ false → (k ≡ Hello → ⊥) → Reads (plainP k) s at l → Heads k s at (Head.Leaf l)
+  kind-plain e h w = record {
+    means = λ lim used. ap (λ (p : Prog Step). run p s lim at used) (by-kind k ∙ rw (e, ne-eqb k Hello h)) ∙ w .means lim used;
+    places = tt;
+  }

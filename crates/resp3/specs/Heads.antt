@@ -1,0 +1,71 @@
+-- A head's answer as a run's outcome, and the programs that RESP3's heads stand for.
+use mathlib.Core.Path.{_≡_}
+use mathlib.Core.List.{List}
+use mathlib.Core.Bool.{Bool, _&&_, _||_}
+use Prim.Native.Nat.{ℕ, _*_}
+use lib.Dec.{leb, eqb}
+use Rattle.meaning.specs.Choice.{pick}
+use Rattle.meaning.specs.Prog.{Prog, ret, refuse, run, Out, done}
+use Rattle.meaning.specs.Kinds.{resp3, SimpleString, SimpleError, Number, Double, Boolean, Null, BlobString, Verbatim, BigNumber, ChunkedString, EndStream, Array, Map, Attribute, Hello}
+use Rattle.meaning.specs.Frames.{Step, leaf, holder, textLineP, numberP, lengthP, bulkP, blankP, booleanP, doubleP, verbatimP, chunkP, helloP, headP}
+use Rattle.leaf.specs.Leaves.{outLeaf}
+use Rattle.leaf3.specs.Answers.{outGreeted, PlacesIn}
+use Rattle.resp3.specs.declared.head.Head.{Head}
+use Rattle.resp3.specs.declared.head.Head.the-variants as Head
+
+-- how many frames a count on the wire stands for: Maps and Attributes count pairs
+abbrev pub framesOf : ℕ → ℕ → ℕ
+framesOf k n = pick (eqb k Map || eqb k Attribute) (2 * n) n
+
+-- of a frame of kind k, behind its type byte at a place
+abbrev pub outHead : ℕ → ℕ → ℕ → Head → Out Step
+outHead k at used (Head.Leaf l) = outLeaf used l
+outHead k at used (Head.Hello g) = outGreeted at used g
+outHead k at used (Head.Holder n c) = done (holder k (framesOf k n)) (c .at) used
+
+-- the places that HELLO's answer names stand in its line
+abbrev pub HeadPlaces : ℕ → Head → Type 0
+HeadPlaces at (Head.Leaf l) = Unit {0}
+HeadPlaces at (Head.Hello g) = PlacesIn at g
+HeadPlaces at (Head.Holder n c) = Unit {0}
+
+-- r is what a frame of kind k gives, whose type byte a place of s is behind, whatever the table
+pub record Heads (k : ℕ) (s : List ℕ) (at : ℕ) (r : Head) : Type 0 where
+  pub means : (lim used : ℕ) → run (headP resp3 k) s lim at used ≡ outHead k at used r
+  pub places : HeadPlaces at r
+
+-- r is what p gives at a place of s, for a frame of kind k that begins anywhere before: HELLO's answer alone tells where, so it is none
+pub record Says (p : Prog Step) (k : ℕ) (s : List ℕ) (at : ℕ) (r : Head) : Type 0 where
+  pub means : (from lim used : ℕ) → run p s lim at used ≡ outHead k from used r
+  pub places : (from : ℕ) → HeadPlaces from r
+
+-- what follows a length worth n, by a sized kind
+abbrev pub countedP : ℕ → ℕ → Prog Step
+countedP k n =
+    pick (leb Array k) (ret (holder k (framesOf k n)))
+    (pick (eqb k Verbatim) (verbatimP resp3 n) (pick (eqb k ChunkedString) (chunkP resp3 n) (bulkP resp3 k n)))
+
+-- what a Number or a sized kind asks for
+abbrev pub numericP : ℕ → Prog Step
+numericP k = pick (eqb k Number) (numberP resp3) (lengthP resp3 k (countedP k))
+
+-- the same, behind a line of digits worth v
+abbrev pub shortP : ℕ → ℕ → Prog Step
+shortP k v = pick (eqb k Number) (ret (leaf Number v 0 0)) (countedP k v)
+
+-- a Number, or a sized kind
+abbrev pub onDigits : ℕ → Bool
+onDigits k = eqb k Number || (leb BlobString k && leb k Verbatim) || eqb k ChunkedString || (leb Array k && leb k Attribute)
+
+-- what a kind asks for that is neither of these nor HELLO
+abbrev pub plainP : ℕ → Prog Step
+plainP k =
+    pick (eqb k SimpleString) (textLineP resp3 k)
+    (pick (eqb k SimpleError) (textLineP resp3 k)
+    (pick (eqb k BigNumber) (textLineP resp3 k)
+    (pick (eqb k Double) (doubleP resp3)
+    (pick (eqb k Boolean) (booleanP resp3) (pick (eqb k Null) (blankP resp3 k) (pick (eqb k EndStream) (blankP resp3 k) (refuse 1)))))))
+
+-- what a kind asks for
+abbrev pub kindP : ℕ → Prog Step
+kindP k = pick (onDigits k) (numericP k) (pick (eqb k Hello) (helloP resp3) (plainP k))

@@ -1,0 +1,155 @@
+// A RESP3 frame's first lines, behind its type byte.
+use leaf::Counted;
+use leaf::Leaf;
+use leaf3::Greeted;
+use text::Cursor;
+use text::number::Short;
+ghost use mathlib.Core.Path.{_≡_};
+ghost use Prim.Native.Nat.{_≤_};
+ghost use lib.ListN.{length};
+ghost use Rattle.meaning.specs.Kinds.{resp3};
+ghost use Rattle.meaning.specs.Frames.{numberP, lengthP};
+ghost use Rattle.text.specs.Numbers.{ShortAt};
+ghost use Rattle.leaf.specs.Leaves.{Reads};
+ghost use Rattle.resp3.specs.Heads.{Heads, Says, countedP, numericP, shortP, plainP, onDigits};
+
+pub enum Head {
+    Leaf(Leaf),
+    // HELLO's line, which starts behind the type byte
+    Hello(Greeted),
+    // how many frames, or pairs, follow as the count on the wire says, and the cursor behind the count
+    Holder(u64, Cursor),
+}
+
+// What follows a length worth n: a holder's frames, or a text.
+fn counted(s: &[u8], k: u8, n: u64, c: Cursor) -> Head
+    requires { ⌜ c .at ≤ length (now s) ⌝ }
+    ensures { λ r. ⌜ Says (countedP k n) k (now (s .entry)) (c .at) r ⌝ }
+{
+    if kinds::ARRAY <= k {
+        return Head::Holder(n, c);
+    }
+    match k {
+        kinds::VERBATIM => Head::Leaf(leaf3::verbatim(s, c, n)),
+        kinds::CHUNKED_STRING => Head::Leaf(leaf3::chunk(s, c, n)),
+        _ => Head::Leaf(leaf::bulk(s, k as u64, c, n)),
+    }
+}
+
+// A sized kind, behind its type byte: a length that is no short line.
+fn long_head(s: &[u8], k: u8, c: Cursor) -> Head
+    requires { ⌜ c .at ≤ length (now s) ⌝ }
+    ensures { λ r. ⌜ Says (lengthP resp3 k (countedP k)) k (now (s .entry)) (c .at) r ⌝ }
+{
+    match leaf::length_long(s, true, k as u64, c) {
+        Counted::Count(n, next) => counted(s, k, n, next),
+        Counted::Not(l) => Head::Leaf(l),
+    }
+}
+
+// A Number that is no short line. Behind a minus 18 digits are read as in `short_ahead`.
+fn long_number(s: &[u8], c: Cursor) -> Leaf
+    requires { ⌜ c .at ≤ length (now s) ⌝ }
+    ensures { λ r. ⌜ Reads (numberP resp3) (now (s .entry)) (c .at) r ⌝ }
+{
+    let at = c.at;
+    if s.len() - at < 21 {
+        return leaf::number_long(s, c);
+    }
+    if s[at] != b'-' {
+        return leaf::number_long(s, c);
+    }
+    match text::number::digits_line(s, Cursor { at: at + 1 }, 18) {
+        Short::Got(v, next) => {
+            Leaf::Row(
+                kinds::NUMBER as u64,
+                text::number::minus_word(v),
+                0,
+                0,
+                next,
+            )
+        }
+        Short::No => leaf::number_long(s, c),
+    }
+}
+
+// A Number or a sized kind, behind its type byte: no short line.
+fn numeric_head(s: &[u8], k: u8, c: Cursor) -> Head
+    requires { ⌜ c .at ≤ length (now s) ⌝ }
+    ensures { λ r. ⌜ Says (numericP k) k (now (s .entry)) (c .at) r ⌝ }
+{
+    if k == kinds::NUMBER {
+        return Head::Leaf(long_number(s, c));
+    }
+    long_head(s, k, c)
+}
+
+// The same, behind a short line that is worth v.
+fn short_head(s: &[u8], k: u8, v: u64, c: Cursor) -> Head
+    requires { ⌜ c .at ≤ length (now s) ⌝ }
+    ensures { λ r. ⌜ Says (shortP k v) k (now (s .entry)) (c .at) r ⌝ }
+{
+    if k == kinds::NUMBER {
+        return Head::Leaf(Leaf::Row(kinds::NUMBER as u64, v, 0, 0, c));
+    }
+    counted(s, k, v, c)
+}
+
+// A short line. Where 20 bytes are there, the 18 turns are straight code; called from one place, so that it is compiled into the walk's loop.
+fn short_ahead(s: &[u8], c: Cursor) -> Short
+    requires { ⌜ c .at ≤ length (now s) ⌝ }
+    ensures { λ r. ⌜ ShortAt (now (s .entry)) (c .at) r ⌝ }
+{
+    let at = c.at;
+    if s.len() - at < 20 {
+        return text::number::short_digits(s, c);
+    }
+    text::number::digits_line(s, c, 18)
+}
+
+// Whether a kind begins with a line of digits: a Number, and the sized kinds.
+fn on_digits(k: u8) -> bool
+    ensures { λ r. ⌜ r ≡ onDigits k ⌝ }
+{
+    (k == kinds::NUMBER)
+        | ((kinds::BLOB_STRING <= k) & (k <= kinds::VERBATIM))
+        | (k == kinds::CHUNKED_STRING)
+        | ((kinds::ARRAY <= k) & (k <= kinds::ATTRIBUTE))
+}
+
+// A kind of one line that is neither digits nor HELLO's, behind its type byte; any other is refused.
+fn plain_head(s: &[u8], k: u8, c: Cursor) -> Leaf
+    requires { ⌜ c .at ≤ length (now s) ⌝ }
+    ensures { λ r. ⌜ Reads (plainP k) (now (s .entry)) (c .at) r ⌝ }
+{
+    match k {
+        kinds::SIMPLE_STRING => leaf::text_line(s, k as u64, c),
+        kinds::SIMPLE_ERROR => leaf::text_line(s, k as u64, c),
+        kinds::BIG_NUMBER => leaf::text_line(s, k as u64, c),
+        kinds::DOUBLE => leaf3::double(s, c),
+        kinds::BOOLEAN => leaf3::boolean(s, c),
+        kinds::NULL => leaf3::blank(s, k as u64, c),
+        kinds::END_STREAM => leaf3::blank(s, k as u64, c),
+        _ => {
+            let at = c.at;
+            Leaf::Refused(1, at)
+        }
+    }
+}
+
+// A frame of kind k, behind its type byte. A kind without one is refused with 1.
+pub fn head_of(s: &[u8], k: u8, c: Cursor) -> Head
+    requires { ⌜ c .at ≤ length (now s) ⌝ }
+    ensures { λ r. ⌜ Heads k (now (s .entry)) (c .at) r ⌝ }
+{
+    if on_digits(k) {
+        return match short_ahead(s, c) {
+            Short::Got(v, next) => short_head(s, k, v, next),
+            Short::No => numeric_head(s, k, c),
+        };
+    }
+    if k == kinds::HELLO {
+        return Head::Hello(leaf3::hello(s, c));
+    }
+    Head::Leaf(plain_head(s, k, c))
+}
