@@ -22,6 +22,8 @@ static const struct {
     decoder *decode;
 } decoders[] = {
     {"imrazgul_resp2_decode", imrazgul_resp2_decode},
+    {"imrazgul_resp3_decode", imrazgul_resp3_decode},
+    {"imrazgul_resp3_stream", imrazgul_resp3_stream},
 };
 
 /* ---- counting ---- */
