@@ -1,6 +1,6 @@
--- The RESP2 encoding of rows, its length, and which tables have one.
+-- The encoding of rows, its length, and which tables have one, over the profile: RESP2's kinds have rules, RESP3's own have none.
 use mathlib.Core.List.{List, [], _∷_, _++_}
-use mathlib.Core.Bool.{Bool, _&&_, _||_}
+use mathlib.Core.Bool.{Bool, true, false, _&&_, _||_}
 use Prim.Native.Nat.{ℕ, _-_, _*_}
 use Prim.Native.Char.{code}
 use lib.ListN.{length, take, drop}
@@ -8,77 +8,101 @@ use lib.Dec.{leb, ltb, eqb}
 use Rattle.meaning.specs.Choice.{pick}
 use Rattle.meaning.specs.Demand.{CR, LF}
 use Rattle.meaning.specs.Text.{codes}
-use Rattle.meaning.specs.Kinds.{SimpleString, SimpleError, Number, Null, BlobString, Array}
+use Rattle.meaning.specs.Kinds.{Profile, typeByte, hasChildren, SimpleString, SimpleError, Number, Null, BlobString, Array}
 use Rattle.meaning.specs.Rows.{Node, Forest, end, item, rowWidth, rowsIn}
 use Rattle.meaning.specs.Tree.{Reading, unfit, got, frameIn}
 use Rattle.meaning.specs.Frames.{depthLimit}
 use Rattle.meaning.specs.Digits.{digitsOf, signedDigitsOf, signedWord, shown}
 
--- ---- which rows have an encoding
+-- ---- which rows have an encoding (RULES 5.2)
 
--- Whether a row's words are what its kind allows, beside a source of n bytes: texts lie in it, and words without a meaning are 0.
-unfoldable pub rowFits : ℕ → Node → Bool
-rowFits n h =
+-- Whether a row's words are what its kind allows, beside a source s: texts lie in it, and words without a meaning are 0.
+unfoldable pub rowFits : Profile → List ℕ → Node → Bool
+rowFits π s h =
     eqb (h .attribute) 0
-    && pick (eqb (h .kind) SimpleString || eqb (h .kind) SimpleError || eqb (h .kind) BlobString) (leb (h .w1) (h .w2) && leb (h .w2) n && eqb (h .w3) 0)
+    && pick (eqb (h .kind) SimpleString || eqb (h .kind) SimpleError || eqb (h .kind) BlobString) (leb (h .w1) (h .w2) && leb (h .w2) (length s) && eqb (h .w3) 0)
     (pick (eqb (h .kind) Number) (eqb (h .w2) 0 && eqb (h .w3) 0)
     (pick (eqb (h .kind) Null) (eqb (h .w1) 0 && eqb (h .w2) 0 && eqb (h .w3) 0)
     (eqb (h .kind) Array && eqb (h .w1) 0 && eqb (h .w2) 0)))
 
 -- how many frames stand beneath a row
 abbrev pub childrenOf : Node → ℕ
-childrenOf h = pick (eqb (h .kind) Array) (h .w3) 0
+childrenOf h = pick (hasChildren (h .kind)) (h .w3) 0
+
+-- a frame with so much depth left, from the first of these rows on
+abbrev pub rowsRead : Profile → List ℕ → ℕ → List ℕ → Reading
+rowsRead π s d ws = frameIn (rowFits π s) childrenOf d ws
+
+-- the words of the rows that a table has
+abbrev pub present : List ℕ → List ℕ
+present t = take (rowWidth * rowsIn (length t)) t
 
 -- row 0 of a table, with the rows beneath it
-unfoldable pub topIn : ℕ → List ℕ → Reading
+unfoldable pub topIn : Profile → List ℕ → List ℕ → Reading
 unfolding frameIn rowFits
-topIn n t = frameIn (rowFits n) childrenOf depthLimit (take (rowWidth * rowsIn (length t)) t)
+topIn π s t = rowsRead π s depthLimit (present t)
 
--- ---- bytes (RESP, "Simple strings", "Simple errors", "Integers", "Bulk strings", "Null bulk strings", "Arrays")
+-- ---- bytes (RESP, "Simple strings", "Simple errors", "Integers", "Bulk strings", "Null bulk strings", "Arrays"; RULES 5.3)
 
 abbrev pub crlf : List ℕ
 crlf = CR ∷ LF ∷ []
 
-abbrev pub bulk : List ℕ → List ℕ
-bulk s = code "$" ∷ (shown (digitsOf (length s)) ++ crlf ++ s ++ crlf)
+-- a type byte and a line
+abbrev pub lineFor : Profile → ℕ → List ℕ → List ℕ
+lineFor π k s = typeByte π k ∷ (s ++ crlf)
+
+-- a type byte and a count
+abbrev pub countFor : Profile → ℕ → ℕ → List ℕ
+countFor π k n = lineFor π k (shown (digitsOf n))
+
+-- a type byte, a length and a text
+abbrev pub bulkFor : Profile → ℕ → List ℕ → List ℕ
+bulkFor π k s = countFor π k (length s) ++ (s ++ crlf)
 
 abbrev pub integerText : ℕ → List ℕ
 integerText w = shown (signedDigitsOf (signedWord w))
 
+-- an integer; with the flag as a bulk string
+abbrev pub integerFor : Profile → Bool → List ℕ → List ℕ
+integerFor π true s = bulkFor π BlobString s
+integerFor π false s = lineFor π Number s
+
 abbrev pub textIn : List ℕ → Node → List ℕ
 textIn s h = take (h .w2 - h .w1) (drop (h .w1) s)
 
--- a row's own bytes; with the flag integers are bulk strings
-unfoldable pub lineOf : List ℕ → Bool → Node → List ℕ
-unfolding digitsOf signedDigitsOf codes
-lineOf s flag h =
-    pick (eqb (h .kind) SimpleString) (code "+" ∷ (textIn s h ++ crlf))
-    (pick (eqb (h .kind) SimpleError) (code "-" ∷ (textIn s h ++ crlf))
-    (pick (eqb (h .kind) Number) (pick flag (bulk (integerText (h .w1))) (code ":" ∷ (integerText (h .w1) ++ crlf)))
-    (pick (eqb (h .kind) BlobString) (bulk (textIn s h))
-    (pick (eqb (h .kind) Array) (code "*" ∷ (shown (digitsOf (h .w3)) ++ crlf))
-    (codes "$-1" ++ crlf)))))
+-- a row's own bytes
+unfoldable pub lineOf : Profile → List ℕ → Bool → Node → List ℕ
+unfolding typeByte digitsOf signedDigitsOf codes
+lineOf π s flag h =
+    pick (eqb (h .kind) SimpleString || eqb (h .kind) SimpleError) (lineFor π (h .kind) (textIn s h))
+    (pick (eqb (h .kind) Number) (integerFor π flag (integerText (h .w1)))
+    (pick (eqb (h .kind) BlobString) (bulkFor π BlobString (textIn s h))
+    (pick (eqb (h .kind) Array) (countFor π Array (h .w3))
+    (lineFor π BlobString (codes "-1")))))
 
-unfoldable pub encoded : List ℕ → Bool → Forest → List ℕ
+unfoldable pub encoded : Profile → List ℕ → Bool → Forest → List ℕ
 unfolding lineOf
-encoded s flag end = []
-encoded s flag (item h k r) = lineOf s flag h ++ (encoded s flag k ++ encoded s flag r)
+encoded π s flag end = []
+encoded π s flag (item h k r) = lineOf π s flag h ++ (encoded π s flag k ++ encoded π s flag r)
 
--- ---- the calls
+-- ---- the calls (RULES 5.4)
 
--- the bytes, or the refusal's number (RULES 5.4)
+-- the bytes, or the refusal's number
 pub data Encoding : Type 0 where
   unable : ℕ → Encoding
   able : List ℕ → Encoding
 
-abbrev pub encodingOf : List ℕ → Bool → Reading → Encoding
-encodingOf s flag unfit = unable 13
-encodingOf s flag (got f r) = able (encoded s flag f)
+abbrev pub encodingOf : Profile → List ℕ → Bool → Reading → Encoding
+encodingOf π s flag unfit = unable 13
+encodingOf π s flag (got f r) = able (encoded π s flag f)
+
+abbrev pub sourceLimit : ℕ
+sourceLimit = 4294967295
 
 -- 14, then 13
-unfoldable pub encoding : List ℕ → List ℕ → Bool → Encoding
+unfoldable pub encoding : Profile → List ℕ → List ℕ → Bool → Encoding
 unfolding topIn encoded
-encoding s t flag = let rest = encodingOf s flag (topIn (length s) t) in pick (ltb 4294967295 (length s)) (unable 14) rest
+encoding π s t flag = let rest = encodingOf π s flag (topIn π s t) in pick (ltb sourceLimit (length s)) (unable 14) rest
 
 -- what the length query gives, and what is written into an output of so many bytes: the bytes, or with 12 the length needed
 pub data Encoded : Type 0 where
@@ -90,6 +114,6 @@ abbrev pub within : ℕ → Encoding → Encoded
 within room (unable k) = refusal k
 within room (able b) = pick (leb (length b) room) (written b) (short (length b))
 
-unfoldable pub encode : List ℕ → List ℕ → Bool → ℕ → Encoded
+unfoldable pub encode : Profile → List ℕ → List ℕ → Bool → ℕ → Encoded
 unfolding encoding
-encode s t flag room = within room (encoding s t flag)
+encode π s t flag room = within room (encoding π s t flag)

@@ -132,6 +132,15 @@ unfoldable pub kindOf : Profile → ℕ → ℕ
 unfolding lookup
 kindOf π b = let second = lookup kinds2 b in let third = lookup kinds3 b in pick (π .three) third second
 
+-- the type byte of a code, or 0
+unfoldable pub byteIn : List (ℕ × ℕ) → ℕ → ℕ
+byteIn [] k = 0
+byteIn (p ∷ ps) k = let rest = byteIn ps k in pick (eqb (p .1) k) (p .0) rest
+
+unfoldable pub typeByte : Profile → ℕ → ℕ
+unfolding byteIn
+typeByte π k = let second = byteIn kinds2 k in let third = byteIn kinds3 k in pick (π .three) third second
+
 -- ---- columns
 
 -- May be a key or a set member: SimpleString to EndStream.

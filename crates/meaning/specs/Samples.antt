@@ -75,7 +75,7 @@ pub data Result : Type 0 where
 unfoldable pub got : Call → Result
 unfolding decode encode
 got (decodes π depth rows s at) = decoded (decode π depth rows s at)
-got (encodes s t flag room) = encoded (encode s t flag room)
+got (encodes s t flag room) = encoded (encode resp2 s t flag room)
 
 pub record Sample : Type 0 where
   pub name : String
@@ -571,10 +571,10 @@ samples-hold = refl
 -- ---- sources that are too long to be computed with
 
 -- 2^32 bytes are too many, whatever the table; one less are not
-pub source-limit : (s t : List ℕ) (flag : Bool) (room : ℕ) → length s ≡ 4294967296 → encode s t flag room ≡ Encode.refusal 14
+pub source-limit : (s t : List ℕ) (flag : Bool) (room : ℕ) → length s ≡ 4294967296 → encode resp2 s t flag room ≡ Encode.refusal 14
 unfolding encode Encode.encoding
 source-limit s t flag room e = rw e
 
-pub source-below : (s : List ℕ) (flag : Bool) (room : ℕ) → length s ≡ 4294967295 → encode s [] flag room ≡ Encode.refusal 13
+pub source-below : (s : List ℕ) (flag : Bool) (room : ℕ) → length s ≡ 4294967295 → encode resp2 s [] flag room ≡ Encode.refusal 13
 unfolding encode Encode.encoding Encode.topIn
 source-below s flag room e = rw e
