@@ -20,7 +20,7 @@ kindName k = getD kindNames k ""
 -- the refusals of a decoder, RULES 3.4, from 0 on
 abbrev pub reasonTexts : List String
 reasonTexts =
-    "" ∷ "type byte unknown to the protocol" ∷ "bad length text" ∷ "bad Number, Double or Boolean text" ∷ "Verbatim shorter than 4 bytes, or its format not txt or mkd" ∷ "bad Hello line" ∷ "streaming marker that is not allowed here" ∷ "attribute directly after an attribute" ∷ "Map key or Set member that is not allowed" ∷ "attribute on a frame that cannot carry one" ∷ "more than 32 frames one inside another" ∷ "more rows needed than the table has" ∷ []
+    "" ∷ "type byte unknown to the protocol" ∷ "bad length text" ∷ "bad Number, Double or Boolean text" ∷ "Verbatim shorter than 4 bytes, or its format not txt or mkd" ∷ "bad Hello line" ∷ "streaming marker that is not allowed here" ∷ "attribute directly after an attribute" ∷ "Map or attribute key, or Set member, that is not allowed" ∷ "attribute on a frame that cannot carry one" ∷ "more than 32 frames one inside another" ∷ "more rows needed than the table has" ∷ []
 
 abbrev pub reasonOf : ℕ → String
 reasonOf k = getD reasonTexts k ""

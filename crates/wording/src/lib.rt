@@ -48,7 +48,7 @@ const REASONS: [[u8; 64]; 12] = [
     *b"bad Hello line..................................................",
     *b"streaming marker that is not allowed here.......................",
     *b"attribute directly after an attribute...........................",
-    *b"Map key or Set member that is not allowed.......................",
+    *b"Map or attribute key, or Set member, that is not allowed........",
     *b"attribute on a frame that cannot carry one......................",
     *b"more than 32 frames one inside another..........................",
     *b"more rows needed than the table has.............................",
