@@ -1,9 +1,19 @@
 // All frames of a capture, and where and why they end.
 use crate::frame;
 use crate::out;
-use answers::Told;
+use answers::Answer;
 ghost use Prim.Native.Nat.{_+_, _≤_};
 ghost use lib.ListN.{length};
+ghost use Rattle.meaning.specs.Frames.{depthLimit};
+ghost use Rattle.meaning.specs.Rows.{rowsIn};
+ghost use Rattle.answers.specs.Answers.{Decoded};
+ghost use Rattle.show.specs.Profiles.{profileOf};
+
+pub(crate) enum Protocol {
+    Resp2,
+    // streaming: a marker is answered, and what it announces follows frame by frame
+    Resp3,
+}
 
 // How much of the output buffer is used, the offset of the next frame, and the refusal or 0.
 struct Moved {
@@ -13,12 +23,17 @@ struct Moved {
 }
 
 // The one place that calls a decoder.
-fn decoded(s: &[u8], t: &mut [u64]) -> Told {
-    answers::numbers_of(resp2::decode(s, t))
+fn decoded(protocol: Protocol, s: &[u8], at: usize, t: &mut [u64]) -> Answer
+    ensures { λ r. ⌜ Decoded (profileOf protocol) depthLimit (now (s .entry)) at (now (t .entry)) (now (t .exit)) r ⌝ }
+{
+    match protocol {
+        Protocol::Resp2 => resp2::decode_at(s, at, t, walk::DEPTH),
+        Protocol::Resp3 => resp3::decode_at(s, at, t, walk::DEPTH, false),
+    }
 }
 
-// The lines of a frame that begins at `at`, of n bytes and so many rows.
-fn shown_at(
+// The lines of what begins at `at`, of n bytes and so many rows.
+fn shown(
     s: &[u8],
     t: &[u64],
     out: &mut [u8; 65536],
@@ -26,41 +41,40 @@ fn shown_at(
     at: usize,
     n: usize,
     rows: usize,
-) -> usize
+) -> Moved
     requires { ⌜ used ≤ 65536 ⌝ }
-    requires { ⌜ at + n ≤ length (now s) ⌝ }
-    ensures { λ r. ⌜ r ≤ 65536 ⌝ }
+    requires { ⌜ (at + n ≤ length (now s)) × (rows ≤ rowsIn (length (now t))) ⌝ }
+    ensures { λ r. ⌜ (r .used ≤ 65536) × (r .at ≤ length (now (s .entry))) ⌝ }
 {
-    if rows <= rows::rows_of(t.len()) {
-        let end = at + n;
-        return frame::lines(out, used, at, &s[at..end], t, rows);
+    Moved {
+        used: frame::lines(out, used, s, at, t, rows),
+        at: at + n,
+        refusal: 0,
     }
-    used
 }
 
-// The frame at `at`, shown. The offset stays where there is none.
-fn step(s: &[u8], t: &mut [u64], out: &mut [u8; 65536], used: usize, at: usize) -> Moved
+// The frame or marker at `at`, shown. The offset stays where there is none.
+fn step(
+    protocol: Protocol,
+    s: &[u8],
+    t: &mut [u64],
+    out: &mut [u8; 65536],
+    used: usize,
+    at: usize,
+) -> Moved
     requires { ⌜ used ≤ 65536 ⌝ }
     requires { ⌜ at ≤ length (now s) ⌝ }
     ensures { λ r. ⌜ (r .used ≤ 65536) × (r .at ≤ length (now (s .entry))) ⌝ }
 {
-    let told = decoded(&s[at..], t);
-    let left = s.len() - at;
-    if told.answer == 1 {
-        let n = told.consumed as usize;
-        if n <= left {
-            let used = shown_at(s, t, out, used, at, n, told.rows as usize);
-            return Moved {
-                used,
-                at: at + n,
-                refusal: 0,
-            };
-        }
-    }
-    Moved {
-        used,
-        at,
-        refusal: told.refusal,
+    match decoded(protocol, s, at, t) {
+        Answer::Frame(n, rows) => shown(s, t, out, used, at, n, rows),
+        Answer::Marker(n, rows) => shown(s, t, out, used, at, n, rows),
+        Answer::Refused(refusal) => Moved { used, at, refusal },
+        Answer::Unfinished => Moved {
+            used,
+            at,
+            refusal: 0,
+        },
     }
 }
 
@@ -107,14 +121,14 @@ fn refused(out: &mut [u8; 65536], used: usize, refusal: u64) -> usize
     out::say(out, p, b"\n")
 }
 
-fn frames(s: &[u8], t: &mut [u64], out: &mut [u8; 65536]) -> usize
+fn frames(protocol: Protocol, s: &[u8], t: &mut [u64], out: &mut [u8; 65536]) -> usize
     ensures { λ r. ⌜ r ≤ 65536 ⌝ }
 {
     let mut used = 0;
     let mut at = 0;
     let mut count = 0u64;
     while at < s.len() {
-        let next = step(s, t, out, used, at);
+        let next = step(protocol, s, t, out, used, at);
         used = next.used;
         if next.at <= at {
             return report(out, used, count, at, s.len() - at, next.refusal);
@@ -125,9 +139,9 @@ fn frames(s: &[u8], t: &mut [u64], out: &mut [u8; 65536]) -> usize
     report(out, used, count, at, 0, 0)
 }
 
-pub(crate) fn show(s: &[u8]) {
+pub(crate) fn show(protocol: Protocol, s: &[u8]) {
     let mut t = [0u64; 24576];
     let mut out = [0u8; 65536];
-    let used = frames(s, &mut t, &mut out);
+    let used = frames(protocol, s, &mut t, &mut out);
     out::flush(&out, used);
 }

@@ -2,7 +2,7 @@
 use crate::out;
 use rows::Row;
 use text::scan::Found;
-ghost use Prim.Native.Nat.{_+_, _<_, _≤_};
+ghost use Prim.Native.Nat.{_≤_};
 ghost use lib.ListN.{length};
 ghost use Rattle.meaning.specs.Rows.{rowsIn};
 
@@ -51,9 +51,9 @@ fn least(a: usize, b: usize) -> usize
 }
 
 // The bytes from one offset to another, escaped, in pieces that the output buffer has room for.
-fn pieces(out: &mut [u8; 65536], at: usize, f: &[u8], from: usize, to: usize) -> usize
+fn pieces(out: &mut [u8; 65536], at: usize, s: &[u8], from: usize, to: usize) -> usize
     requires { ⌜ at ≤ 65536 ⌝ }
-    requires { ⌜ to ≤ length (now f) ⌝ }
+    requires { ⌜ to ≤ length (now s) ⌝ }
     ensures { λ r. ⌜ r ≤ 65536 ⌝ }
 {
     let mut p = at;
@@ -61,54 +61,125 @@ fn pieces(out: &mut [u8; 65536], at: usize, f: &[u8], from: usize, to: usize) ->
     while i < to {
         let next = i + 1 + least(to - i - 1, 1023);
         p = out::room(out, p);
-        p = wording::escapes(out, p, &f[i..next]);
+        p = wording::escapes(out, p, &s[i..next]);
         i = next;
     }
     p
 }
 
-fn quoted(out: &mut [u8; 65536], at: usize, f: &[u8], from: u64, to: u64) -> usize
+// The bytes of a text, if the input has them.
+fn text_of(out: &mut [u8; 65536], at: usize, s: &[u8], r: Row) -> usize
+    requires { ⌜ at ≤ 65536 ⌝ }
+    ensures { λ r. ⌜ r ≤ 65536 ⌝ }
+{
+    if r.w2 <= s.len() as u64 {
+        return pieces(out, at, s, r.w1 as usize, r.w2 as usize);
+    }
+    at
+}
+
+fn quoted(out: &mut [u8; 65536], at: usize, s: &[u8], r: Row) -> usize
     requires { ⌜ at ≤ 65536 ⌝ }
     ensures { λ r. ⌜ r ≤ 65536 ⌝ }
 {
     let p = out::say(out, at, b" \"");
-    if to <= f.len() as u64 {
-        let q = pieces(out, p, f, from as usize, to as usize);
-        return out::say(out, q, b"\"");
-    }
-    p
+    let p = text_of(out, p, s, r);
+    out::say(out, p, b"\"")
 }
 
-fn has_text(kind: u64) -> bool {
+// A row's kind code, 0 where it is none.
+fn kind_of(r: Row) -> u8 {
+    let kind = r.kind;
+    if kind <= kinds::NAME as u64 {
+        return kind as u8;
+    }
+    0
+}
+
+// Whether a row is a field of a Hello: a part of its line, with no type byte of its own.
+fn is_field(kind: u8) -> bool {
     match kind {
-        1 | 2 | 4 | 7 | 8 | 9 | 10 | 11 | 20 | 21 | 22 => true,
+        kinds::USER | kinds::PASSWORD | kinds::NAME => true,
         _ => false,
     }
 }
 
-fn value(out: &mut [u8; 65536], at: usize, f: &[u8], r: Row) -> usize
+// Whether a frame ends with its text and the two bytes behind it.
+fn has_text(kind: u8) -> bool {
+    match kind {
+        kinds::SIMPLE_STRING
+        | kinds::SIMPLE_ERROR
+        | kinds::DOUBLE
+        | kinds::BLOB_STRING
+        | kinds::BLOB_ERROR
+        | kinds::VERBATIM
+        | kinds::BIG_NUMBER
+        | kinds::CHUNKED_STRING => true,
+        _ => false,
+    }
+}
+
+// What a streamed value begins with: of which kind it is.
+fn begins(out: &mut [u8; 65536], at: usize, kind: u64) -> usize
     requires { ⌜ at ≤ 65536 ⌝ }
     ensures { λ r. ⌜ r ≤ 65536 ⌝ }
 {
-    let kind = r.kind;
-    if has_text(kind) {
-        return quoted(out, at, f, r.w1, r.w2);
-    }
-    match kind {
-        3 => {
+    let p = out::say(out, at, b": a streamed ");
+    let p = out::room(out, p);
+    let p = wording::kind(out, p, kind);
+    out::say(out, p, b" begins")
+}
+
+// What is said of a row behind the name of its kind. A Double goes without quotes, since its text is a number's; a
+// BigNumber's text is not looked at by a decoder, and has them. Pairs are counted as the wire counts them: word 3 has two
+// for each.
+fn value(out: &mut [u8; 65536], at: usize, s: &[u8], r: Row) -> usize
+    requires { ⌜ at ≤ 65536 ⌝ }
+    ensures { λ r. ⌜ r ≤ 65536 ⌝ }
+{
+    match kind_of(r) {
+        0 | kinds::NULL | kinds::END_STREAM => at,
+        kinds::NUMBER => {
             let p = out::say(out, at, b" ");
             let p = out::room(out, p);
             wording::signed(out, p, r.w1)
         }
-        13..=17 => {
+        kinds::DOUBLE => {
+            let p = out::say(out, at, b" ");
+            text_of(out, p, s, r)
+        }
+        kinds::BOOLEAN => {
+            if r.w1 == 0 {
+                return out::say(out, at, b" false");
+            }
+            out::say(out, at, b" true")
+        }
+        kinds::VERBATIM => {
+            if r.w3 == 1 {
+                let p = out::say(out, at, b" txt");
+                return quoted(out, p, s, r);
+            }
+            let p = out::say(out, at, b" mkd");
+            quoted(out, p, s, r)
+        }
+        kinds::ARRAY | kinds::SET | kinds::PUSH => {
             let p = out::say(out, at, b" of ");
             out::number(out, p, r.w3)
         }
-        _ => at,
+        kinds::MAP | kinds::ATTRIBUTE => {
+            let p = out::say(out, at, b" of ");
+            out::count(out, p, r.w3 / 2, b" pair")
+        }
+        kinds::HELLO => {
+            let p = out::say(out, at, b" ");
+            out::number(out, p, r.w3)
+        }
+        kinds::MARKER => begins(out, at, r.w3),
+        _ => quoted(out, at, s, r),
     }
 }
 
-fn line(out: &mut [u8; 65536], at: usize, f: &[u8], offset: usize, depth: usize, r: Row) -> usize
+fn line(out: &mut [u8; 65536], at: usize, s: &[u8], offset: usize, depth: usize, r: Row) -> usize
     requires { ⌜ at ≤ 65536 ⌝ }
     requires { ⌜ depth ≤ 32 ⌝ }
     ensures { λ r. ⌜ r ≤ 65536 ⌝ }
@@ -116,17 +187,30 @@ fn line(out: &mut [u8; 65536], at: usize, f: &[u8], offset: usize, depth: usize,
     let p = margin(out, at, offset, depth);
     let p = out::room(out, p);
     let p = wording::kind(out, p, r.kind);
-    let p = value(out, p, f, r);
+    let p = value(out, p, s, r);
     out::say(out, p, b"\n")
 }
 
-// Where the next frame begins. A text ends two bytes before it, and all else is a line.
-fn after(f: &[u8], place: usize, r: Row) -> usize
-    requires { ⌜ place ≤ length (now f) ⌝ }
-    ensures { λ r. ⌜ r ≤ length (now (f .entry)) ⌝ }
+// The offset that a row is shown with: where its frame begins, or a field's text.
+fn offset_of(place: usize, r: Row) -> usize {
+    if is_field(kind_of(r)) {
+        return r.w1 as usize;
+    }
+    place
+}
+
+// Where the next frame begins, after the row of one that begins at `place`. A field lies in a line that was passed with its
+// Hello; what has no text is a line, and so are a holder's count, a Null, a Marker and a Hello.
+fn after(s: &[u8], place: usize, r: Row) -> usize
+    requires { ⌜ place ≤ length (now s) ⌝ }
+    ensures { λ r. ⌜ r ≤ length (now (s .entry)) ⌝ }
 {
-    let n = f.len();
-    if has_text(r.kind) {
+    let n = s.len();
+    let kind = kind_of(r);
+    if is_field(kind) {
+        return place;
+    }
+    if has_text(kind) {
         let to = r.w2;
         if n < 2 {
             return n;
@@ -136,7 +220,7 @@ fn after(f: &[u8], place: usize, r: Row) -> usize
         }
         return n;
     }
-    let Found::Next(next) = text::scan::line_end(f, place) else {
+    let Found::Next(next) = text::scan::line_end(s, place) else {
         return n;
     };
     if next <= n { next } else { n }
@@ -169,30 +253,30 @@ fn past(row: usize, span: u64, count: usize) -> usize
     }
 }
 
-// The rows of a frame whose bytes are f, which begin at base in the input.
+// The rows of the frame that begins at `from`, its attribute's before its own.
 pub(crate) fn lines(
     out: &mut [u8; 65536],
     at: usize,
-    base: usize,
-    f: &[u8],
+    s: &[u8],
+    from: usize,
     t: &[u64],
     count: usize,
 ) -> usize
     requires { ⌜ at ≤ 65536 ⌝ }
-    requires { ⌜ base + length (now f) < 18446744073709551616 ⌝ }
+    requires { ⌜ from ≤ length (now s) ⌝ }
     requires { ⌜ count ≤ rowsIn (length (now t)) ⌝ }
     ensures { λ r. ⌜ r ≤ 65536 ⌝ }
 {
     let mut ends = [0usize; 32];
     let mut p = at;
-    let mut place = 0;
+    let mut place = from;
     let mut depth = 0;
     let mut row = 0;
     while row < count {
         depth = open_at(&ends, depth, row);
         let r = rows::row_at(t, row);
-        p = line(out, p, f, base + place, depth, r);
-        place = after(f, place, r);
+        p = line(out, p, s, offset_of(place, r), depth, r);
+        place = after(s, place, r);
         if depth < 32 {
             ends[depth] = past(row, r.span, count);
             depth += 1;

@@ -1,4 +1,5 @@
 // Reads the input into one buffer, and has it shown.
+use crate::capture::Protocol;
 ghost use mathlib.Core.Path.{_≡_};
 ghost use Prim.Native.Nat.{_≤_};
 ghost use lib.ListN.{length};
@@ -50,7 +51,7 @@ fn has_more(fd: i32) -> bool {
     libc::read(fd, &mut one) > 0
 }
 
-pub(crate) fn show(fd: i32, name: &[u8]) {
+pub(crate) fn show(protocol: Protocol, fd: i32, name: &[u8]) {
     let mut buf = space();
     let filled = fill(fd, &mut buf);
     if filled.failed {
@@ -58,7 +59,7 @@ pub(crate) fn show(fd: i32, name: &[u8]) {
         return;
     }
     let n = filled.bytes;
-    crate::capture::show(&buf[0..n]);
+    crate::capture::show(protocol, &buf[0..n]);
     if n == 1048576 {
         if has_more(fd) {
             io::write_all(

@@ -7,10 +7,10 @@ use Rattle.show.proofs.capture.frames.Statement.{statement}
 use Rattle.show.proofs.capture.frames.Tie as tie
 
 abbrev Inv-loop : tie.InvT-loop
-Inv-loop s t₀ out₀ used₀ at₀ count₀ t out used at count = (used ≤ 65536) × (at ≤ length s) × (count ≤ at) × (length t ≡ length t₀)
+Inv-loop protocol s t₀ out₀ used₀ at₀ count₀ t out used at count = (used ≤ 65536) × (at ≤ length s) × (count ≤ at) × (length t ≡ length t₀)
 
 abbrev μ-loop : tie.MeasureT-loop
-μ-loop s t₀ out₀ used₀ at₀ count₀ t out used at count = length s - at
+μ-loop protocol s t₀ out₀ used₀ at₀ count₀ t out used at count = length s - at
 
 loop-holds : tie.Need-loop-holds Inv-loop μ-loop
 loop-holds c = search needs

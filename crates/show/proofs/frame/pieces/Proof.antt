@@ -7,10 +7,10 @@ use Rattle.show.proofs.frame.pieces.Statement.{statement}
 use Rattle.show.proofs.frame.pieces.Tie as tie
 
 abbrev Inv-loop : tie.InvT-loop
-Inv-loop out₀ at f from to p₀ i₀ out p i = p ≤ 65536
+Inv-loop out₀ at s from to p₀ i₀ out p i = p ≤ 65536
 
 abbrev μ-loop : tie.MeasureT-loop
-μ-loop out₀ at f from to p₀ i₀ out p i = to - i
+μ-loop out₀ at s from to p₀ i₀ out p i = to - i
 
 loop-holds : tie.Need-loop-holds Inv-loop μ-loop
 loop-holds c = search needs
