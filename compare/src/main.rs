@@ -15,6 +15,8 @@ mod notes;
 mod ours;
 #[cfg(feature = "ours")]
 mod rig;
+#[cfg(feature = "ours")]
+mod rows;
 mod show;
 #[cfg(feature = "ours")]
 mod tally;

@@ -1,6 +1,7 @@
 //! Holds our decoders to the crate's: answer, bytes consumed, the whole tree, and every word of the table.
 
-use crate::ours::{self, Rows, Table};
+use crate::ours::{self, Table};
+use crate::rows::Rows;
 use crate::show::show;
 use crate::tally::Tally;
 use crate::theirs::{self, Protocol, Theirs};
