@@ -5,7 +5,7 @@ use redis_protocol::resp3::decode::streaming::decode_range;
 use redis_protocol::resp3::types::DecodedRangeFrame;
 
 /// Frames of each code that can stand as a key or carry an attribute.
-const FRAMES: &[(u8, &str, &[&str])] = &[
+pub const FRAMES: &[(u8, &str, &[&str])] = &[
     (1, "SimpleString", &["+a\r\n"]),
     (2, "SimpleError", &["-a\r\n"]),
     (3, "Number", &[":1\r\n"]),

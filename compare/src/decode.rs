@@ -1,6 +1,6 @@
 //! The buffers that our decoders and the crate's are both given.
 
-use crate::generate::{Chance, Maker, RESP2};
+use crate::generate::{Chance, Maker, HEADS, RESP2, RESP3};
 use crate::rig::{print_on_panic, Rig};
 use crate::show::{commas, show};
 use crate::texts;
@@ -257,16 +257,6 @@ impl Rig {
     }
 }
 
-const RESP3: &[&[u8]] = &[
-    b"+", b"-", b":", b",", b"#", b"_", b"$", b"!", b"=", b"(", b";", b".", b"*", b"%", b"~", b">", b"|", b"H", b"0",
-    b"1", b"2", b"?", b"t", b"\r", b"\n", b"\r\n",
-];
-/// Whole heads and whole leaves as tokens, so that keys, attributes and nesting come soon.
-const HEADS: &[&[u8]] = &[
-    b"*1\r\n", b"*2\r\n", b"%1\r\n", b"%2\r\n", b"~1\r\n", b"~2\r\n", b">1\r\n", b"|1\r\n", b"|0\r\n", b"*0\r\n",
-    b":1\r\n", b"+a\r\n", b".\r\n", b"_\r\n", b";1\r\na\r\n", b"HELLO 3\r\n", b"$?\r\n", b"*?\r\n", b",-0\r\n",
-    b",nan\r\n",
-];
 /// Every byte that a length or number line is made of.
 const DIGITS: &[&[u8]] = &[
     b"$", b"!", b"=", b";", b"*", b"%", b"~", b">", b"|", b":", b",", b"0", b"1", b"-", b"+", b"?", b"e", b".", b"\r\n",

@@ -5,6 +5,18 @@ use crate::theirs::Protocol;
 /// The bytes of RESP2, those of the types first, and CR LF, from which strings are made.
 pub const RESP2: &[&[u8]] = &[b"+", b"-", b":", b"$", b"*", b"0", b"1", b"2", b"9", b"?", b"a", b"\r", b"\n", b"\r\n"];
 
+/// The same of RESP3.
+pub const RESP3: &[&[u8]] = &[
+    b"+", b"-", b":", b",", b"#", b"_", b"$", b"!", b"=", b"(", b";", b".", b"*", b"%", b"~", b">", b"|", b"H", b"0",
+    b"1", b"2", b"?", b"t", b"\r", b"\n", b"\r\n",
+];
+/// Whole heads and whole leaves as tokens, so that keys, attributes and nesting come soon.
+pub const HEADS: &[&[u8]] = &[
+    b"*1\r\n", b"*2\r\n", b"%1\r\n", b"%2\r\n", b"~1\r\n", b"~2\r\n", b">1\r\n", b"|1\r\n", b"|0\r\n", b"*0\r\n",
+    b":1\r\n", b"+a\r\n", b".\r\n", b"_\r\n", b";1\r\na\r\n", b"HELLO 3\r\n", b"$?\r\n", b"*?\r\n", b",-0\r\n",
+    b",nan\r\n",
+];
+
 /// splitmix64: the same numbers for the same seed everywhere.
 pub struct Chance(u64);
 

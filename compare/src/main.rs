@@ -15,14 +15,16 @@ mod notes;
 mod ours;
 #[cfg(feature = "ours")]
 mod rig;
-#[cfg(feature = "ours")]
+#[cfg_attr(not(feature = "ours"), allow(dead_code))]
 mod rows;
+mod samples;
 mod show;
 #[cfg(feature = "ours")]
 mod tally;
 mod texts;
 #[cfg_attr(not(feature = "ours"), allow(dead_code))]
 mod theirs;
+mod wire;
 
 /// The words KEY=VALUE of the command line.
 pub struct Keys(Vec<String>);
@@ -66,7 +68,7 @@ fn mode(name: &str, keys: &Keys) -> Option<bool> {
         "cells" => Some(cells::run()),
         "notes" => Some(notes::run()),
         "texts-list" => Some(texts::run()),
-        "resp2-list" => Some(list::run()),
+        "answers-list" => Some(list::run()),
         _ => None,
     }
 }

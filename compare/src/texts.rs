@@ -73,7 +73,7 @@ pub fn numbers() -> BTreeSet<Vec<u8>> {
     all
 }
 
-fn doubles() -> BTreeSet<Vec<u8>> {
+pub fn doubles() -> BTreeSet<Vec<u8>> {
     let mut all: BTreeSet<Vec<u8>> = BTreeSet::new();
     let words = ["inf", "INF", "Inf", "iNf", "infinity", "INFINITY", "Infinity", "nan", "NAN", "NaN", "nAN"];
     for w in words {
@@ -107,7 +107,7 @@ fn doubles() -> BTreeSet<Vec<u8>> {
     all
 }
 
-fn hellos() -> BTreeSet<Vec<u8>> {
+pub fn hellos() -> BTreeSet<Vec<u8>> {
     let lines = [
         "H", "HE", "HELLO", "HELLO ", "HELLO 2", "HELLO 3", "HELLO 1", "HELLO 4", "HELLO 33", "HELLO 03", "HELLO +3",
         "HELLO  3", "HELLO 3 ", "HELLO 3  ", "hello 3", "HELLOO 3", "HELL 3", "HELLO3", "HELLO\r3", "HELLO 3\r",

@@ -58,7 +58,7 @@ pub fn decode(protocol: Protocol, buf: &[u8], flat: &mut Vec<u64>) -> Theirs {
     }
 }
 
-fn code(kind: &FrameKind) -> u64 {
+pub fn code(kind: &FrameKind) -> u64 {
     match kind {
         FrameKind::SimpleString => 1,
         FrameKind::SimpleError => 2,

@@ -4,7 +4,7 @@ use rows::Row;
 ghost use Prim.Native.Nat.{_≤_};
 
 // How many bytes of the list are a row.
-pub(crate) const ROW: usize = 15;
+pub(crate) const ROW: usize = 17;
 
 // The word that stands at a place before a call; no row of the list holds it.
 fn mark(i: usize) -> u64 {
@@ -33,7 +33,7 @@ fn is_marked(t: &[u64], from: usize) -> bool {
     true
 }
 
-// Whether the row is the one that 15 bytes of the list say.
+// Whether the row is the one that 17 bytes of the list say.
 fn is_row(r: Row, b: &[u8]) -> bool {
     if b.len() < ROW {
         return false;
@@ -43,8 +43,9 @@ fn is_row(r: Row, b: &[u8]) -> bool {
     let w2 = number::two(b[9], b[10]) as u64;
     let w3 = number::two(b[11], b[12]) as u64;
     let span = number::two(b[13], b[14]) as u64;
+    let attribute = number::two(b[15], b[16]) as u64;
     let first = r.kind == kind && r.w1 == w1 && r.w2 == w2;
-    first && r.w3 == w3 && r.span == span && r.attribute == 0
+    first && r.w3 == w3 && r.span == span && r.attribute == attribute
 }
 
 // Whether row i of the table is there, and is the list's.

@@ -6,10 +6,12 @@ use Rattle.check_crate.proofs.list.replay.Statement.{statement}
 use Rattle.check_crate.proofs.list.replay.Tie as tie
 
 abbrev Inv-loop : tie.InvT-loop
-Inv-loop s t₀ counts₀ count₀ rows₀ at₀ t10 t counts count rows at = at ≤ length s
+Inv-loop s t₀ by-resp2₀ by-complete₀ by-streaming₀ records₀ rows₀ at₀ t12 t13 t14 t15 t16 t17 t18 t by-resp2 by-complete by-streaming records rows at =
+    at ≤ length s
 
 abbrev μ-loop : tie.MeasureT-loop
-μ-loop s t₀ counts₀ count₀ rows₀ at₀ t10 t counts count rows at = length s - at
+μ-loop s t₀ by-resp2₀ by-complete₀ by-streaming₀ records₀ rows₀ at₀ t12 t13 t14 t15 t16 t17 t18 t by-resp2 by-complete by-streaming records rows at =
+    length s - at
 
 slice-aggregate-t : tie.Need-slice-aggregate-t Inv-loop μ-loop
 slice-aggregate-t c = search needs
@@ -53,20 +55,41 @@ stop-requires-2 c κs = search needs
 returns-2 : tie.Need-returns-2 Inv-loop μ-loop
 returns-2 c = search needs
 
-mul-wrapping-add-u64 : tie.Need-mul-wrapping-add-u64 Inv-loop μ-loop
-mul-wrapping-add-u64 c = search needs
+sub-count : tie.Need-sub-count Inv-loop μ-loop
+sub-count c = search needs
 
-array-read-wrapping-add-u64 : tie.Need-array-read-wrapping-add-u64 Inv-loop μ-loop
-array-read-wrapping-add-u64 c = search needs
+part-count-start : tie.Need-part-count-start Inv-loop μ-loop
+part-count-start c = search needs
 
-wrapping-add-u64-requires-2 : tie.Need-wrapping-add-u64-requires-2 Inv-loop μ-loop
-wrapping-add-u64-requires-2 c κs = search needs
+part-count-end : tie.Need-part-count-end Inv-loop μ-loop
+part-count-end c = search needs
 
-mul-counts : tie.Need-mul-counts Inv-loop μ-loop
-mul-counts c = search needs
+count-requires : tie.Need-count-requires Inv-loop μ-loop
+count-requires c κs = search needs
 
-array-write-counts : tie.Need-array-write-counts Inv-loop μ-loop
-array-write-counts c = search needs
+sub-count-2 : tie.Need-sub-count-2 Inv-loop μ-loop
+sub-count-2 c = search needs
+
+part-count-start-2 : tie.Need-part-count-start-2 Inv-loop μ-loop
+part-count-start-2 c = search needs
+
+part-count-end-2 : tie.Need-part-count-end-2 Inv-loop μ-loop
+part-count-end-2 c = search needs
+
+count-requires-2 : tie.Need-count-requires-2 Inv-loop μ-loop
+count-requires-2 c κs = search needs
+
+sub-count-3 : tie.Need-sub-count-3 Inv-loop μ-loop
+sub-count-3 c = search needs
+
+part-count-start-3 : tie.Need-part-count-start-3 Inv-loop μ-loop
+part-count-start-3 c = search needs
+
+part-count-end-3 : tie.Need-part-count-end-3 Inv-loop μ-loop
+part-count-end-3 c = search needs
+
+count-requires-3 : tie.Need-count-requires-3 Inv-loop μ-loop
+count-requires-3 c κs = search needs
 
 sub-rows-of : tie.Need-sub-rows-of Inv-loop μ-loop
 sub-rows-of c = search needs
@@ -80,8 +103,8 @@ part-rows-of-end c = search needs
 rows-of-requires : tie.Need-rows-of-requires Inv-loop μ-loop
 rows-of-requires c κs = search needs
 
-wrapping-add-u64-requires-3 : tie.Need-wrapping-add-u64-requires-3 Inv-loop μ-loop
-wrapping-add-u64-requires-3 c κs = search needs
+wrapping-add-u64-requires-2 : tie.Need-wrapping-add-u64-requires-2 Inv-loop μ-loop
+wrapping-add-u64-requires-2 c κs = search needs
 
 loop-less : tie.Need-loop-less Inv-loop μ-loop
 loop-less c = search needs
@@ -89,8 +112,41 @@ loop-less c = search needs
 loop-again : tie.Need-loop-again Inv-loop μ-loop
 loop-again c = search needs
 
-report-requires : tie.Need-report-requires Inv-loop μ-loop
-report-requires c κs = search needs
+slice-aggregate-count-line : tie.Need-slice-aggregate-count-line Inv-loop μ-loop
+slice-aggregate-count-line c = search needs
+
+count-line-requires : tie.Need-count-line-requires Inv-loop μ-loop
+count-line-requires c κs = search needs
+
+slice-aggregate-count-line-2 : tie.Need-slice-aggregate-count-line-2 Inv-loop μ-loop
+slice-aggregate-count-line-2 c = search needs
+
+count-line-requires-2 : tie.Need-count-line-requires-2 Inv-loop μ-loop
+count-line-requires-2 c κs = search needs
+
+slice-aggregate-decoder-line : tie.Need-slice-aggregate-decoder-line Inv-loop μ-loop
+slice-aggregate-decoder-line c = search needs
+
+decoder-line-requires : tie.Need-decoder-line-requires Inv-loop μ-loop
+decoder-line-requires c κs = search needs
+
+slice-aggregate-decoder-line-2 : tie.Need-slice-aggregate-decoder-line-2 Inv-loop μ-loop
+slice-aggregate-decoder-line-2 c = search needs
+
+decoder-line-requires-2 : tie.Need-decoder-line-requires-2 Inv-loop μ-loop
+decoder-line-requires-2 c κs = search needs
+
+slice-aggregate-decoder-line-3 : tie.Need-slice-aggregate-decoder-line-3 Inv-loop μ-loop
+slice-aggregate-decoder-line-3 c = search needs
+
+decoder-line-requires-3 : tie.Need-decoder-line-requires-3 Inv-loop μ-loop
+decoder-line-requires-3 c κs = search needs
+
+slice-aggregate-write-all-2 : tie.Need-slice-aggregate-write-all-2 Inv-loop μ-loop
+slice-aggregate-write-all-2 c = search needs
+
+write-all-requires-2 : tie.Need-write-all-requires-2 Inv-loop μ-loop
+write-all-requires-2 c κs = search needs
 
 returns-3 : tie.Need-returns-3 Inv-loop μ-loop
 returns-3 c = search needs
@@ -115,17 +171,35 @@ replay-spec =
     judged-requires
     stop-requires-2
     returns-2
-    mul-wrapping-add-u64
-    array-read-wrapping-add-u64
-    wrapping-add-u64-requires-2
-    mul-counts
-    array-write-counts
+    sub-count
+    part-count-start
+    part-count-end
+    count-requires
+    sub-count-2
+    part-count-start-2
+    part-count-end-2
+    count-requires-2
+    sub-count-3
+    part-count-start-3
+    part-count-end-3
+    count-requires-3
     sub-rows-of
     part-rows-of-start
     part-rows-of-end
     rows-of-requires
-    wrapping-add-u64-requires-3
+    wrapping-add-u64-requires-2
     loop-less
     loop-again
-    report-requires
+    slice-aggregate-count-line
+    count-line-requires
+    slice-aggregate-count-line-2
+    count-line-requires-2
+    slice-aggregate-decoder-line
+    decoder-line-requires
+    slice-aggregate-decoder-line-2
+    decoder-line-requires-2
+    slice-aggregate-decoder-line-3
+    decoder-line-requires-3
+    slice-aggregate-write-all-2
+    write-all-requires-2
     returns-3)
