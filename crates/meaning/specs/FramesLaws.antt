@@ -156,7 +156,7 @@ annotated-fills π p h w a = λ c.
     (subst (λ (x : ℕ). Weighs x (λ f. span f + span a) (bodyP π p w k)) e (weighs-more span (bodyP π p w k) 1 (span a) (body-fills π p h w k)))
     (λ f. weighs-pick span (span f + span a) (mayCarry (frameKind f)) (ret (join a f)) (refuse 9) (omega (arith, span-join a f)) tt))
 
-attribute-fills : (π : Profile) (p : Prog Forest) → Weighs 0 span p → Weighs 1 span (attributeP π p)
+pub attribute-fills : (π : Profile) (p : Prog Forest) → Weighs 0 span p → Weighs 1 span (attributeP π p)
 unfolding attributeP
 attribute-fills π p h = λ i j. weighs-bind span span (bodyP π p 0 17) (annotatedP π p j) 1 (body-fills π p h 0 17) (annotated-fills π p h j)
 

@@ -21,17 +21,13 @@ use Rattle.leaf.specs.declared.Leaf.{Leaf}
 use Rattle.leaf.specs.declared.Counted.the-variants as Counted
 use Rattle.text.specs.declared.Cursor.{Cursor}
 use Rattle.walk.specs.Walks.{walkOf, Placed}
-use Rattle.walk.specs.Tops.{rowsAfter, Laid, Tried}
+use Rattle.walk.specs.Tops.{rowsAfter, Laid}
 use Rattle.walk.specs.declared.Walk.{Walk}
 use Rattle.walk.specs.declared.Walk.the-variants as Walk
 use Rattle.walk.proofs.Top.{laid, leaf-laid}
 use Rattle.resp2.specs.Heads.{leafP}
 use Rattle.resp2.specs.Tops.{arrayOut, topP}
 use Rattle.resp2.proofs.Steps.{frame-0, frame-no-room}
-
--- what was not tried, and left the table alone
-pub untried : {o : Out Forest} {t : List ℕ} (at : ℕ) → Tried o t t (Walk.Refused 11 at)
-untried at = record { stands = λ h. absurd (h refl); kept = λ h. refl }
 
 -- ---- by its kind, behind its type byte
 

@@ -150,10 +150,9 @@ pub fn decode_at(s: &[u8], at: usize, t: &mut [u64], depth: usize) -> Answer
     if lim == 0 {
         return Answer::Refused(11);
     }
-    let kinds = kinds::all2();
-    let c = Cursor { at };
-    match c.byte(s) {
+    match (Cursor { at }).byte(s) {
         Taken::Byte(b, next) => {
+            let kinds = kinds::all2();
             let k = kinds::kind_at(&kinds, b);
             walk::answer(at, top(s, t, &kinds, lim, k, next, depth - 1))
         }

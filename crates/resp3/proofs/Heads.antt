@@ -1,5 +1,5 @@
 -- A RESP3 frame's first lines, by the answers of the leaves and lengths below them.
-use mathlib.Core.Path.{_≡_, refl, sym, ap, subst, _∙_}
+use mathlib.Core.Path.{_≡_, refl, sym, ap, subst, fun-ext, _∙_}
 use mathlib.Core.List.{List}
 use mathlib.Core.Bool.{Bool, true, false}
 use Prim.Native.Nat.{ℕ, _≤_, _<_}
@@ -21,7 +21,7 @@ use Rattle.leaf.specs.declared.Counted.the-variants as Counted
 use Rattle.leaf.proofs.Leaves.{short-number, short-count}
 use Rattle.leaf3.specs.Answers.{Greets}
 use Rattle.leaf3.specs.declared.Greeted.{Greeted}
-use Rattle.resp3.specs.Heads.{Heads, Says, outHead, countedP, numericP, shortP, plainP, onDigits, kindP}
+use Rattle.resp3.specs.Heads.{Heads, Says, outHead, textP, countedP, numericP, shortP, plainP, onDigits, kindP}
 use Rattle.resp3.specs.declared.head.Head.{Head}
 use Rattle.resp3.specs.declared.head.Head.the-variants as Head
 
@@ -44,14 +44,8 @@ module _ (s : List ℕ) (k n : ℕ) (c : Cursor) where
   unfolding run
   counted-holder h = rw (le-leb Array k h) (record { means = λ from lim used. refl; places = λ from. tt })
 
-  pub counted-verbatim : {l : Leaf} → k ≡ Verbatim → ((π : Profile) → Reads (verbatimP π n) s (c .at) l) → Says (countedP k n) k s (c .at) (Head.Leaf l)
-  counted-verbatim e w = rw (lt-leb Array k (omega arith), eq-eqb k Verbatim e) (leaf-says k (w resp3))
-
-  pub counted-chunk : {l : Leaf} → k ≡ ChunkedString → ((π : Profile) → Reads (chunkP π n) s (c .at) l) → Says (countedP k n) k s (c .at) (Head.Leaf l)
-  counted-chunk e w = rw (lt-leb Array k (omega arith), ne-eqb k Verbatim (λ f. omega arith), eq-eqb k ChunkedString e) (leaf-says k (w resp3))
-
-  pub counted-text : {l : Leaf} → k < Array → (k ≡ Verbatim → ⊥) → (k ≡ ChunkedString → ⊥) → ((π : Profile) → Reads (bulkP π k n) s (c .at) l) → Says (countedP k n) k s (c .at) (Head.Leaf l)
-  counted-text h d e w = rw (lt-leb Array k h, ne-eqb k Verbatim d, ne-eqb k ChunkedString e) (leaf-says k (w resp3))
+  pub counted-text : {l : Leaf} → k < Array → Reads (textP k n) s (c .at) l → Says (countedP k n) k s (c .at) (Head.Leaf l)
+  counted-text h w = rw (lt-leb Array k h) (leaf-says k w)
 
 module _ (s : List ℕ) (at k : ℕ) where
   -- a count, and then what it is for
@@ -153,3 +147,17 @@ module _ (s : List ℕ) (at k : ℕ) where
     means = λ lim used. ap (λ (p : Prog Step). run p s lim at used) (by-kind k ∙ rw (e, ne-eqb k Hello h)) ∙ w .means lim used;
     places = tt;
   }
+
+-- a kind that has no children
+module _ (s : List ℕ) (at k : ℕ) (low : k < Array) {l : Leaf} where
+  reads-by : {p : Prog Step} → headP resp3 k ≡ p → Reads p s at l → Reads (headP resp3 k) s at l
+  reads-by e w = subst (λ (p : Prog Step). Reads p s at l) (sym e) w
+
+  pub leaf-number : k ≡ Number → Reads (numberP resp3) s at l → Reads (headP resp3 k) s at l
+  leaf-number e w = reads-by (by-kind k ∙ rw e) w
+
+  pub leaf-sized : (k ≡ Number → ⊥) → onDigits k ≡ true → Reads (lengthP resp3 k (textP k)) s at l → Reads (headP resp3 k) s at l
+  leaf-sized e d w = reads-by (by-kind k ∙ rw (d, ne-eqb k Number e) (ap (lengthP resp3 k) (fun-ext (λ n. rw (lt-leb Array k low))))) w
+
+  pub leaf-plain : onDigits k ≡ false → Reads (plainP k) s at l → Reads (headP resp3 k) s at l
+  leaf-plain d w = reads-by (by-kind k ∙ rw (d, ne-eqb k Hello (λ e. omega arith))) w

@@ -27,6 +27,7 @@ use Rattle.walk.specs.declared.Walk.{Walk}
 use Rattle.walk.specs.declared.Walk.the-variants as Walk
 use Rattle.walk.proofs.Said.{done-run}
 use Rattle.resp3.specs.Heads.{Heads, outHead}
+use Rattle.resp3.specs.Tops.{typedP}
 use Rattle.resp3.specs.declared.head.Head.{Head}
 
 -- ---- a frame
@@ -53,6 +54,10 @@ module _ (s : List ℕ) (lim at used d : ℕ) where
       module _ (there : at < length s) {k : ℕ} (e : k ≡ kindOf resp3 (getD s at 0)) where
         chosen : run (frameP resp3 d) s lim at used ≡ run (choice k) s lim (at + 1) (used + 1)
         chosen = typed ∙ type-there s lim at (used + 1) resp3 choice there ∙ ap (λ (j : ℕ). run (choice j) s lim (at + 1) (used + 1)) (sym e)
+
+        pub frame-typed : run (frameP resp3 d) s lim at used ≡ run (typedP (d - 1) k) s lim (at + 1) (used + 1)
+        unfolding choice
+        frame-typed = chosen
 
         pub frame-attribute : k ≡ Attribute → run (frameP resp3 d) s lim at used ≡ run (attributeP resp3 (frameP resp3 (d - 1))) s lim (at + 1) (used + 1)
         unfolding choice

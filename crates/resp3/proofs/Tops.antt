@@ -1,30 +1,35 @@
--- The whole call, complete or streaming, by the walk of its frame.
-use mathlib.Core.Path.{_≡_, refl, sym, ap, subst, fun-ext, _∙_}
+-- The whole call, complete or streaming: a marker at its top, and its frame by its kind.
+use mathlib.Core.Path.{_≡_, refl, sym, ap, fun-ext, _∙_}
 use mathlib.Core.List.{List}
 use mathlib.Core.Bool.{Bool, true, false, _&&_, _||_}
 use mathlib.Core.Option.{Option, none, some}
-use Prim.Native.Nat.{ℕ, zero, suc, _-_, _*_, _≤_}
+use Prim.Native.Nat.{ℕ, zero, suc, _+_, _-_, _*_, _≤_, _<_}
 use native.Mathlib.Omega.{arith}
 use lib.ListN.{length, take, getD}
 use lib.Dec.{eqb}
+use borrow.Author.Tests.{eq-eqb, ne-eqb}
 use Rattle.meaning.specs.Choice.{pick}
 use Rattle.meaning.specs.Demand.{bytes, line}
 use Rattle.meaning.specs.Text.{Length, count, minusOne}
 use Rattle.meaning.specs.Prog.{Prog, ret, refuse, room, here, ask, bind, run, Out, done, refused, unfinished}
-use Rattle.meaning.specs.ProgLaws.{then}
-use Rattle.meaning.specs.Kinds.{Profile, resp3, resp3-stream, kindOf, Map, Attribute, Marker}
-use Rattle.meaning.specs.Rows.{Forest, frameKind}
-use Rattle.meaning.specs.Frames.{Step, holder, bulkP, verbatimP, chunkP, sized, lengthFor, lengthP, headP, bodyP, restP, carriesP, annotatedP, attributeP, frameP, decodeP}
-use Rattle.meaning.specs.RunLaws.{decode-run}
+use Rattle.meaning.specs.ProgLaws.{then, run-bind, Weighs, weighs-pick}
+use Rattle.meaning.specs.Kinds.{Profile, resp3, resp3-stream, kindOf, Array, Map, Attribute, Marker}
+use Rattle.meaning.specs.Rows.{Forest, frameKind, span, rowsIn}
+use Rattle.meaning.specs.Frames.{Step, leaf, holder, bulkP, verbatimP, chunkP, sized, lengthFor, lengthP, headP, bodyP, restP, carriesP, annotatedP, attributeP, frameP, decodeP}
+use Rattle.meaning.specs.FramesLaws.{attribute-fills, body-fills, frame-fills}
+use Rattle.meaning.specs.RunLaws.{decode-run, leaf-run}
 use Rattle.text.specs.declared.Cursor.{Cursor}
-use Rattle.walk.specs.Walks.{walkOf, Walks}
+use Rattle.leaf.specs.Leaves.{outLeaf, Reads}
+use Rattle.leaf.specs.declared.Leaf.{Leaf}
+use Rattle.leaf.specs.declared.Leaf.the-variants as Leaf
+use Rattle.walk.specs.Walks.{walkOf, Walks, Placed}
 use Rattle.walk.specs.Tops.{rowsAfter, Laid}
 use Rattle.walk.specs.declared.Walk.{Walk}
 use Rattle.walk.specs.declared.Walk.the-variants as Walk
 use Rattle.walk.proofs.Said.{done-run, refused-run, unfinished-run}
-use Rattle.walk.proofs.Top.{laid}
-use Rattle.resp3.specs.Tops.{mode}
-use Rattle.resp3.proofs.Steps.{frame-0, frame-no-room, frame-more}
+use Rattle.walk.proofs.Top.{laid, leaf-laid}
+use Rattle.resp3.specs.Tops.{mode, typedP, judgedP, callP, unmarkedL}
+use Rattle.resp3.proofs.Steps.{frame-0, frame-no-room, frame-more, frame-typed}
 
 -- a frame is the same in both
 kind-same : (b : ℕ) → kindOf resp3-stream b ≡ kindOf resp3 b
@@ -76,67 +81,117 @@ frame-mode : (c : Bool) (d : ℕ) → frameP (mode c) d ≡ frameP resp3 d
 frame-mode true d = refl
 frame-mode false d = frame-stream d
 
+-- ---- a marker at the top
+
+-- what a call makes of an outcome
+abbrev judged : Bool → Out Forest → Out Forest
+judged c (done f n u) = pick (c && eqb (frameKind f) Marker) (refused 6 n) (done f n u)
+judged c (refused k n) = refused k n
+judged c unfinished = unfinished
+
+module _ (c : Bool) (s : List ℕ) (lim : ℕ) where
+  judge : (f : Forest) (n u : ℕ) (b : Bool) → run (pick b (refuse 6) (ret f)) s lim n u ≡ pick b (refused 6 n) (done f n u)
+  unfolding run
+  judge f n u true = refl
+  judge f n u false = refl
+
+  judge-all : (o : Out Forest) → then o (λ f n u. run (pick (c && eqb (frameKind f) Marker) (refuse 6) (ret f)) s lim n u) ≡ judged c o
+  judge-all (done f n u) = judge f n u (c && eqb (frameKind f) Marker)
+  judge-all (refused k n) = refl
+  judge-all unfinished = refl
+
+  module _ (p : Prog Forest) (at used : ℕ) where
+    judged-run : run (judgedP c p) s lim at used ≡ judged c (run p s lim at used)
+    judged-run = run-bind p (λ f. pick (c && eqb (frameKind f) Marker) (refuse 6) (ret f)) s lim at used ∙ judge-all (run p s lim at used)
+
+    -- what a walk says
+    pub no-frame : {k a : ℕ} {t₀ t₁ : List ℕ} → Laid (run p s lim at used) t₀ t₁ (Walk.Refused k a) → Laid (run (judgedP c p) s lim at used) t₀ t₁ (Walk.Refused k a)
+    no-frame {k} {a} {t₀} v =
+        let e = refused-run (run p s lim at used) k a (v .says) in
+        laid (refused k a) (judged-run ∙ ap (judged c) e) refl (v .leaves ∙ ap (rowsAfter t₀) e)
+
+    pub not-yet : {t₀ t₁ : List ℕ} → Laid (run p s lim at used) t₀ t₁ Walk.Unfinished → Laid (run (judgedP c p) s lim at used) t₀ t₁ Walk.Unfinished
+    not-yet {t₀} v =
+        let e = unfinished-run (run p s lim at used) (v .says) in
+        laid unfinished (judged-run ∙ ap (judged c) e) refl (v .leaves ∙ ap (rowsAfter t₀) e)
+
+    module _ {q : Cursor} {u k : ℕ} (e : Walk.To q u k ≡ walkOf (run p s lim at used)) where
+      chosen : (b : Bool) → (c && eqb k Marker) ≡ b → (f : Forest) → run p s lim at used ≡ done f (q .at) u → k ≡ frameKind f
+          → run (judgedP c p) s lim at used ≡ pick b (refused 6 (q .at)) (done f (q .at) u)
+      chosen b h f o i = judged-run ∙ rw (o, ap (λ (j : ℕ). c && eqb j Marker) (sym i) ∙ h)
+
+      -- a marker, where none is answered
+      pub a-marker : (c && eqb k Marker) ≡ true → {t₀ t₁ : List ℕ} → t₁ ≡ t₀ → Laid (run (judgedP c p) s lim at used) t₀ t₁ (Walk.Refused 6 (q .at))
+      a-marker h same =
+          let x = done-run (run p s lim at used) q u k e in
+          laid (refused 6 (q .at)) (chosen true h (x .0) (x .1) (x .2)) refl same
+
+      -- a frame, or a marker that is answered
+      pub a-frame : (c && eqb k Marker) ≡ false → {t₀ t₁ : List ℕ} {w : Walk} → Laid (run p s lim at used) t₀ t₁ w → Laid (run (judgedP c p) s lim at used) t₀ t₁ w
+      a-frame h v =
+          let x = done-run (run p s lim at used) q u k e in
+          laid (run p s lim at used) (chosen false h (x .0) (x .1) (x .2) ∙ sym (x .1)) (v .says) (v .leaves)
+
+-- ---- a frame by its kind, behind its type byte
+
+pub typed-fills : (d k : ℕ) → Weighs 1 span (typedP d k)
+typed-fills d k =
+    weighs-pick span 1 (eqb k Attribute) (attributeP resp3 (frameP resp3 d)) (bodyP resp3 (frameP resp3 d) 0 k) (attribute-fills resp3 (frameP resp3 d) (frame-fills resp3 d))
+    (body-fills resp3 (frameP resp3 d) (frame-fills resp3 d) 0 k)
+
+module _ (d k : ℕ) {s : List ℕ} {lim at : ℕ} {t₀ t₁ : List ℕ} {r : Walk} where
+  pub typed-attribute : k ≡ Attribute → Walks (attributeP resp3 (frameP resp3 d)) s lim at 1 0 t₀ t₁ r → Walks (typedP d k) s lim at 1 0 t₀ t₁ r
+  typed-attribute e w = rw (eq-eqb k Attribute e) w
+
+  pub typed-body : (k ≡ Attribute → ⊥) → Walks (bodyP resp3 (frameP resp3 d) 0 k) s lim at 1 0 t₀ t₁ r → Walks (typedP d k) s lim at 1 0 t₀ t₁ r
+  typed-body e w = rw (ne-eqb k Attribute e) w
+
+-- a leaf: its row, or the marker's refusal
+pub top-leaf : (c : Bool) (d k : ℕ) (s t₀ : List ℕ) (lim at : ℕ) (l : Leaf) {t₁ : List ℕ} {r : Walk} → k < Array → Reads (headP resp3 k) s at l → lim ≡ rowsIn (length t₀) → 0 < lim
+    → Placed (unmarkedL c l) 0 0 t₀ t₁ r → Laid (run (callP c d k) s lim at 1) t₀ t₁ r
+unfolding frameKind
+top-leaf c d k s t₀ lim at l low reads counted one placed =
+    leaf-laid (frameP resp3 d) 0 s t₀ lim (unmarkedL c l)
+    (judged-run c s lim (typedP d k) at 1 ∙ ap (judged c) body ∙ by l)
+    counted one placed
+  where
+    after : Step → ℕ → ℕ → Out Forest
+    after st n u = run (restP (frameP resp3 d) 0 st) s lim n u
+
+    body : run (typedP d k) s lim at 1 ≡ then (outLeaf 1 l) after
+    body = rw (ne-eqb k Attribute (λ e. omega arith)) (run-bind (headP resp3 k) (restP (frameP resp3 d) 0) s lim at 1 ∙ ap (λ (o : Out Step). then o after) (reads .means lim 1))
+
+    row : (j a b e : ℕ) (n : Cursor) (m : Bool) → (c && eqb j Marker) ≡ m → judged c (after (leaf j a b e) (n .at) 1) ≡ then (outLeaf 1 (pick m (Leaf.Refused 6 (n .at)) (Leaf.Row j a b e n))) after
+    row j a b e n true h = rw (leaf-run (frameP resp3 d) 0 s lim (n .at) 1 j a b e, h)
+    row j a b e n false h = rw (leaf-run (frameP resp3 d) 0 s lim (n .at) 1 j a b e, h)
+
+    by : (x : Leaf) → judged c (then (outLeaf 1 x) after) ≡ then (outLeaf 1 (unmarkedL c x)) after
+    by (Leaf.Row j a b e n) = row j a b e n (c && eqb j Marker) refl
+    by (Leaf.Refused j n) = refl
+    by Leaf.Unfinished = refl
+
+-- ---- the whole call
+
 module _ (c : Bool) (d : ℕ) (s : List ℕ) (lim at : ℕ) where
-  judge : Forest → ℕ → ℕ → Out Forest
-  judge f n u = pick (c && eqb (frameKind f) Marker) (refused 6 n) (done f n u)
-
-  called : run (decodeP (mode c) d) s lim at 0 ≡ then (run (frameP resp3 d) s lim at 0) judge
-  unfolding run judge
-  called = decode-run (mode c) d s lim at 0 ∙ ap (λ (p : Prog Forest). then (run p s lim at 0) (λ f n u. run (pick (c && eqb (frameKind f) Marker) (refuse 6) (ret f)) s lim n u)) (frame-mode c d) ∙ go (run (frameP resp3 d) s lim at 0)
-    where
-      by : (f : Forest) (n u : ℕ) (b : Bool) → run (pick b (refuse 6) (ret f)) s lim n u ≡ pick b (refused 6 n) (done f n u)
-      by f n u true = refl
-      by f n u false = refl
-
-      go : (o : Out Forest) → then o (λ f n u. run (pick (c && eqb (frameKind f) Marker) (refuse 6) (ret f)) s lim n u) ≡ then o judge
-      go (done f n u) = by f n u (c && eqb (frameKind f) Marker)
-      go (refused k n) = refl
-      go unfinished = refl
-
-  call-refused : {k a : ℕ} → run (frameP resp3 d) s lim at 0 ≡ refused k a → run (decodeP (mode c) d) s lim at 0 ≡ refused k a
-  call-refused e = called ∙ rw e
-
-  call-unfinished : run (frameP resp3 d) s lim at 0 ≡ unfinished → run (decodeP (mode c) d) s lim at 0 ≡ unfinished
-  call-unfinished e = called ∙ rw e
-
-  -- what a walk without a table says
-  module _ (t₀ l : List ℕ) where
-    pub no-frame : {k a : ℕ} {t₁ : List ℕ} → Laid (run (frameP resp3 d) s lim at 0) t₀ t₁ (Walk.Refused k a) → Laid (run (decodeP (mode c) d) s lim at 0) t₀ t₁ (Walk.Refused k a)
-    no-frame {k} {a} {t₁} v =
-        let e = refused-run (run (frameP resp3 d) s lim at 0) k a (v .says) in
-        laid (refused k a) (call-refused e) refl (v .leaves ∙ ap (rowsAfter t₀) e)
-
-    pub not-yet : {t₁ : List ℕ} → Laid (run (frameP resp3 d) s lim at 0) t₀ t₁ Walk.Unfinished → Laid (run (decodeP (mode c) d) s lim at 0) t₀ t₁ Walk.Unfinished
-    not-yet {t₁} v =
-        let e = unfinished-run (run (frameP resp3 d) s lim at 0) (v .says) in
-        laid unfinished (call-unfinished e) refl (v .leaves ∙ ap (rowsAfter t₀) e)
-
-  module _ {p : Cursor} {u k : ℕ} (e : Walk.To p u k ≡ walkOf (run (frameP resp3 d) s lim at 0)) where
-    judged : (b : Bool) → (c && eqb k Marker) ≡ b → (f : Forest) → run (frameP resp3 d) s lim at 0 ≡ done f (p .at) u → k ≡ frameKind f
-        → run (decodeP (mode c) d) s lim at 0 ≡ pick b (refused 6 (p .at)) (done f (p .at) u)
-    unfolding judge
-    judged b q f o i = called ∙ rw (o, ap (λ (j : ℕ). c && eqb j Marker) (sym i) ∙ q)
-
-    -- a marker, where none is answered
-    pub a-marker : (c && eqb k Marker) ≡ true → {t₀ t₁ : List ℕ} → t₁ ≡ t₀ → Laid (run (decodeP (mode c) d) s lim at 0) t₀ t₁ (Walk.Refused 6 (p .at))
-    a-marker q same =
-        let x = done-run (run (frameP resp3 d) s lim at 0) p u k e in
-        laid (refused 6 (p .at)) (judged true q (x .0) (x .1) (x .2)) refl same
-
-    -- a frame, or a marker that is answered
-    pub a-frame : (c && eqb k Marker) ≡ false → {t₀ t₁ : List ℕ} {w : Walk} → Laid (run (frameP resp3 d) s lim at 0) t₀ t₁ w → Laid (run (decodeP (mode c) d) s lim at 0) t₀ t₁ w
-    a-frame q v =
-        let x = done-run (run (frameP resp3 d) s lim at 0) p u k e in
-        laid (run (frameP resp3 d) s lim at 0) (judged false q (x .0) (x .1) (x .2) ∙ sym (x .1)) (v .says) (v .leaves)
-
-  -- ---- before there is a frame
+  called : run (decodeP (mode c) d) s lim at 0 ≡ judged c (run (frameP resp3 d) s lim at 0)
+  called =
+      decode-run (mode c) d s lim at 0
+      ∙ judge-all c s lim (run (frameP (mode c) d) s lim at 0)
+      ∙ ap (λ (p : Prog Forest). judged c (run p s lim at 0)) (frame-mode c d)
 
   pub too-deep : (t : List ℕ) → d ≡ 0 → Laid (run (decodeP (mode c) d) s lim at 0) t t (Walk.Refused 10 at)
-  too-deep t e = laid (refused 10 at) (call-refused (frame-0 s lim at 0 d e)) refl refl
+  too-deep t e = laid (refused 10 at) (called ∙ ap (judged c) (frame-0 s lim at 0 d e)) refl refl
 
   module _ (some : d ≡ 0 → ⊥) where
     pub no-row : (t : List ℕ) → lim ≡ 0 → Laid (run (decodeP (mode c) d) s lim at 0) t t (Walk.Refused 11 at)
-    no-row t e = laid (refused 11 at) (call-refused (frame-no-room s lim at 0 d some (omega arith))) refl refl
+    no-row t e = laid (refused 11 at) (called ∙ ap (judged c) (frame-no-room s lim at 0 d some (omega arith))) refl refl
 
-    pub no-byte : (t : List ℕ) → (lim ≡ 0 → ⊥) → length s ≤ at → Laid (run (decodeP (mode c) d) s lim at 0) t t Walk.Unfinished
-    no-byte t one h = laid unfinished (call-unfinished (frame-more s lim at 0 d some (omega arith) h)) refl refl
+    module _ (one : 0 < lim) where
+      pub no-byte : (t : List ℕ) → length s ≤ at → Laid (run (decodeP (mode c) d) s lim at 0) t t Walk.Unfinished
+      no-byte t h = laid unfinished (called ∙ ap (judged c) (frame-more s lim at 0 d some one h)) refl refl
+
+      pub a-call : {k : ℕ} {t₀ t₁ : List ℕ} {w : Walk} → at < length s → k ≡ kindOf resp3 (getD s at 0) → Laid (run (callP c (d - 1) k) s lim (at + 1) 1) t₀ t₁ w
+          → Laid (run (decodeP (mode c) d) s lim at 0) t₀ t₁ w
+      a-call {k} there e l =
+          laid (run (callP c (d - 1) k) s lim (at + 1) 1)
+          (called ∙ ap (judged c) (frame-typed s lim at 0 d some one there e) ∙ sym (judged-run c s lim (typedP (d - 1) k) (at + 1) 1)) (l .says) (l .leaves)

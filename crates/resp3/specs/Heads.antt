@@ -39,11 +39,13 @@ pub record Says (p : Prog Step) (k : ℕ) (s : List ℕ) (at : ℕ) (r : Head) :
   pub means : (from lim used : ℕ) → run p s lim at used ≡ outHead k from used r
   pub places : (from : ℕ) → HeadPlaces from r
 
+-- a text of n bytes, by a sized kind that has no children
+abbrev pub textP : ℕ → ℕ → Prog Step
+textP k n = pick (eqb k Verbatim) (verbatimP resp3 n) (pick (eqb k ChunkedString) (chunkP resp3 n) (bulkP resp3 k n))
+
 -- what follows a length worth n, by a sized kind
 abbrev pub countedP : ℕ → ℕ → Prog Step
-countedP k n =
-    pick (leb Array k) (ret (holder k (framesOf k n)))
-    (pick (eqb k Verbatim) (verbatimP resp3 n) (pick (eqb k ChunkedString) (chunkP resp3 n) (bulkP resp3 k n)))
+countedP k n = pick (leb Array k) (ret (holder k (framesOf k n))) (textP k n)
 
 -- what a Number or a sized kind asks for
 abbrev pub numericP : ℕ → Prog Step

@@ -17,7 +17,7 @@ ghost use Rattle.resp3.specs.Heads.{framesOf};
 ghost use Rattle.resp3.specs.Keys.{inPairs, isJudged};
 
 // Whether a holder counts pairs.
-fn in_pairs(k: u8) -> bool
+pub fn in_pairs(k: u8) -> bool
     ensures { λ r. ⌜ r ≡ inPairs k ⌝ }
 {
     (k == kinds::MAP) | (k == kinds::ATTRIBUTE)
@@ -103,7 +103,7 @@ fn aggregate(
 }
 
 // A frame of kind k, behind its type byte; its row is counted in `used`.
-fn body(
+pub fn body(
     s: &[u8],
     t: &mut [u64],
     kinds: &[u8; 256],
@@ -194,7 +194,7 @@ fn annotated(
 }
 
 // An attribute, behind its type byte, and the frame that it belongs to; its row is counted in `used`.
-fn attribute(
+pub fn attribute(
     s: &[u8],
     t: &mut [u64],
     kinds: &[u8; 256],
@@ -225,8 +225,8 @@ fn attribute(
     }
 }
 
-// A frame, with `depth` left.
-pub fn frame(
+// A frame, with `depth` left. Called from one place, so that it is compiled into the loop over a holder's frames.
+fn frame(
     s: &[u8],
     t: &mut [u64],
     kinds: &[u8; 256],

@@ -5,13 +5,13 @@ use leaf3::Greeted;
 use text::Cursor;
 use text::number::Short;
 ghost use mathlib.Core.Path.{_≡_};
-ghost use Prim.Native.Nat.{_≤_};
+ghost use Prim.Native.Nat.{_≤_, _<_};
 ghost use lib.ListN.{length};
-ghost use Rattle.meaning.specs.Kinds.{resp3};
-ghost use Rattle.meaning.specs.Frames.{numberP, lengthP};
+ghost use Rattle.meaning.specs.Kinds.{resp3, Array};
+ghost use Rattle.meaning.specs.Frames.{numberP, lengthP, headP};
 ghost use Rattle.text.specs.Numbers.{ShortAt};
 ghost use Rattle.leaf.specs.Leaves.{Reads};
-ghost use Rattle.resp3.specs.Heads.{Heads, Says, countedP, numericP, shortP, plainP, onDigits};
+ghost use Rattle.resp3.specs.Heads.{Heads, Says, textP, countedP, numericP, shortP, plainP, onDigits};
 
 pub enum Head {
     Leaf(Leaf),
@@ -19,6 +19,18 @@ pub enum Head {
     Hello(Greeted),
     // how many frames, or pairs, follow as the count on the wire says, and the cursor behind the count
     Holder(u64, Cursor),
+}
+
+// A text of n bytes.
+fn text(s: &[u8], k: u8, n: u64, c: Cursor) -> Leaf
+    requires { ⌜ c .at ≤ length (now s) ⌝ }
+    ensures { λ r. ⌜ Reads (textP k n) (now (s .entry)) (c .at) r ⌝ }
+{
+    match k {
+        kinds::VERBATIM => leaf3::verbatim(s, c, n),
+        kinds::CHUNKED_STRING => leaf3::chunk(s, c, n),
+        _ => leaf::bulk(s, k as u64, c, n),
+    }
 }
 
 // What follows a length worth n: a holder's frames, or a text.
@@ -29,11 +41,7 @@ fn counted(s: &[u8], k: u8, n: u64, c: Cursor) -> Head
     if kinds::ARRAY <= k {
         return Head::Holder(n, c);
     }
-    match k {
-        kinds::VERBATIM => Head::Leaf(leaf3::verbatim(s, c, n)),
-        kinds::CHUNKED_STRING => Head::Leaf(leaf3::chunk(s, c, n)),
-        _ => Head::Leaf(leaf::bulk(s, k as u64, c, n)),
-    }
+    Head::Leaf(text(s, k, n, c))
 }
 
 // A sized kind, behind its type byte: a length that is no short line.
@@ -152,4 +160,29 @@ pub fn head_of(s: &[u8], k: u8, c: Cursor) -> Head
         return Head::Hello(leaf3::hello(s, c));
     }
     Head::Leaf(plain_head(s, k, c))
+}
+
+// A sized kind that has no children, behind its type byte.
+fn sized(s: &[u8], k: u8, c: Cursor) -> Leaf
+    requires { ⌜ c .at ≤ length (now s) ⌝ }
+    ensures { λ r. ⌜ Reads (lengthP resp3 k (textP k)) (now (s .entry)) (c .at) r ⌝ }
+{
+    match leaf::length_head(s, true, k as u64, c) {
+        Counted::Count(n, next) => text(s, k, n, next),
+        Counted::Not(l) => l,
+    }
+}
+
+// A frame of kind k that has no children, behind its type byte: what a call needs whose top frame is a leaf.
+pub fn leaf_head(s: &[u8], k: u8, c: Cursor) -> Leaf
+    requires { ⌜ (c .at ≤ length (now s)) × (k < Array) ⌝ }
+    ensures { λ r. ⌜ Reads (headP resp3 k) (now (s .entry)) (c .at) r ⌝ }
+{
+    if k == kinds::NUMBER {
+        return leaf::number(s, c);
+    }
+    if on_digits(k) {
+        return sized(s, k, c);
+    }
+    plain_head(s, k, c)
 }

@@ -122,6 +122,10 @@ module _ (p : Prog Forest) (fills : Weighs 1 span p) (n : ℕ) (s t₀ x : List 
   pub once-unfinished : {t₁ : List ℕ} → Walked Walk.Unfinished → t₁ ≡ t₀ → Laid (run p s (n + 1) at 1) t₀ t₁ Walk.Unfinished
   once-unfinished w e = laid unfinished (unfinished-run (run p s (n + 1) at 1) (w .says)) refl e
 
+-- what was not tried, and left the table alone
+pub untried : {o : Out Forest} {t : List ℕ} (at : ℕ) → Tried o t t (Walk.Refused 11 at)
+untried at = record { stands = λ h. absurd (h refl); kept = λ h. refl }
+
 -- what is no 11 in few rows is the answer in more
 pub tried : (p : Prog Forest) (s t₀ t₁ : List ℕ) (lim most at used : ℕ) (r : Walk) → lim ≤ most → Laid (run p s lim at used) t₀ t₁ r
     → Tried (run p s most at used) t₀ t₁ r

@@ -29,14 +29,14 @@ returns-2 c =
     let e = c .before .before .before .before .before .args in
     decoded resp2 (e .depth) (e .s .now) (e .at) (e .t .now) _ _ (c .before .rows-of .ensures) (no-row (e .depth) (e .s .now) _ (e .at) (c .before .before .if1 .left) _ (c .if2 .taken)) refl
 
-all2-requires : tie.Need-all2-requires
-all2-requires c κs = search needs
-
 byte-requires : tie.Need-byte-requires
 byte-requires c κs = search needs
 
 enum-known-b : tie.Need-enum-known-b
 enum-known-b c = search needs
+
+all2-requires : tie.Need-all2-requires
+all2-requires c κs = search needs
 
 kind-at-requires : tie.Need-kind-at-requires
 kind-at-requires c κs = search needs
@@ -47,27 +47,18 @@ sub-top c = search needs
 top-requires : tie.Need-top-requires
 top-requires c κs =
     let e = c .before .before .before .before .before .before .before .before .before .before .before .before .before .before .args in
-    let b = c .before .before .before .before .before .b in
-    let byte = c .before .before .before .before .before .before .before .byte in
-    let all2 = c .before .before .before .before .before .before .before .before .all2 in
-    let if2 = c .before .before .before .before .before .before .before .before .before .if2 in
-    let rowsof = c .before .before .before .before .before .before .before .before .before .before .rows-of in
-    let w = taken-to (e .s .now) (e .at) (b .given .0 .0) (b .given .0 .1 .0) (sym (b .given .1) ∙ byte .ensures) in
+    let b = c .before .before .before .before .before .before .b in
+    let w = taken-to (e .s .now) (e .at) (b .given .0 .0) (b .given .0 .1 .0) (sym (b .given .1) ∙ c .before .before .before .before .before .before .before .before .byte .ensures) in
     let p : b .given .0 .1 .0 .at ≡ e .at + 1 = ap (λ (x : Cursor). x .at) (w .to) in
-    record { within = omega (arith, w .there, p); counted = rowsof .ensures; one = omega (arith, if2 .left); lent = all2 .ensures }
+    record { within = omega (arith, w .there, p); counted = c .before .before .before .before .before .before .before .before .before .before .rows-of .ensures; one = omega (arith, c .before .before .before .before .before .before .before .before .before .if2 .left); lent = c .before .before .before .before .all2 .ensures }
 
 answer-requires : tie.Need-answer-requires
 answer-requires c κs =
     let e = c .before .before .before .before .before .before .before .before .before .before .before .before .before .before .before .before .before .args in
-    let top = c .before .before .top in
-    let kindat = c .before .before .before .before .before .kind-at in
-    let b = c .before .before .before .before .before .before .before .before .b in
-    let byte = c .before .before .before .before .before .before .before .before .before .before .byte in
-    let if2 = c .before .before .before .before .before .before .before .before .before .before .before .before .if2 in
-    let rowsof = c .before .before .before .before .before .before .before .before .before .before .before .before .before .rows-of in
-    let w = taken-to (e .s .now) (e .at) (b .given .0 .0) (b .given .0 .1 .0) (sym (b .given .1) ∙ byte .ensures) in
+    let b = c .before .before .before .before .before .before .before .before .before .b in
+    let w = taken-to (e .s .now) (e .at) (b .given .0 .0) (b .given .0 .1 .0) (sym (b .given .1) ∙ c .before .before .before .before .before .before .before .before .before .before .before .byte .ensures) in
     let p : b .given .0 .1 .0 .at ≡ e .at + 1 = ap (λ (x : Cursor). x .at) (w .to) in
-    behind (topP (e .depth - 1) (kindat .result)) (e .s .now) (rowsof .result) (e .at) (b .given .0 .1 .0 .at) 1 (omega (arith, p)) (omega (arith, w .there, p)) (omega (arith, if2 .left)) (top .ensures .says)
+    behind (topP (e .depth - 1) (c .before .before .before .before .before .kind-at .result)) (e .s .now) (c .before .before .before .before .before .before .before .before .before .before .before .before .before .rows-of .result) (e .at) (b .given .0 .1 .0 .at) 1 (omega (arith, p)) (omega (arith, w .there, p)) (omega (arith, c .before .before .before .before .before .before .before .before .before .before .before .before .if2 .left)) (c .before .before .top .ensures .says)
 
 enum-told : tie.Need-enum-told
 enum-told c = search needs
@@ -80,28 +71,21 @@ returns-3 c =
     let e = c .before .before .before .before .before .before .before .before .before .before .before .before .before .before .before .before .before .before .args in
     let top = c .before .before .before .top in
     let kindat = c .before .before .before .before .before .before .kind-at in
-    let b = c .before .before .before .before .before .before .before .before .before .b in
-    let byte = c .before .before .before .before .before .before .before .before .before .before .before .byte in
-    let all2 = c .before .before .before .before .before .before .before .before .before .before .before .before .all2 in
-    let if2 = c .before .before .before .before .before .before .before .before .before .before .before .before .before .if2 in
+    let b = c .before .before .before .before .before .before .before .before .before .before .b in
     let rowsof = c .before .before .before .before .before .before .before .before .before .before .before .before .before .before .rows-of in
-    let if1 = c .before .before .before .before .before .before .before .before .before .before .before .before .before .before .before .if1 in
-    let w = taken-to (e .s .now) (e .at) (b .given .0 .0) (b .given .0 .1 .0) (sym (b .given .1) ∙ byte .ensures) in
+    let w = taken-to (e .s .now) (e .at) (b .given .0 .0) (b .given .0 .1 .0) (sym (b .given .1) ∙ c .before .before .before .before .before .before .before .before .before .before .before .before .byte .ensures) in
     let p : b .given .0 .1 .0 .at ≡ e .at + 1 = ap (λ (x : Cursor). x .at) (w .to) in
     decoded resp2 (e .depth) (e .s .now) (e .at) (e .t .now) _ (rowsof .result) (rowsof .ensures)
-    (a-frame (e .depth) (e .s .now) (rowsof .result) (e .at) (if1 .left) (omega (arith, if2 .left)) (w .there) (kindat .ensures resp2 (all2 .ensures) ∙ ap (kindOf resp2) (w .byte))
+    (a-frame (e .depth) (e .s .now) (rowsof .result) (e .at) (c .before .before .before .before .before .before .before .before .before .before .before .before .before .before .before .if1 .left) (omega (arith, c .before .before .before .before .before .before .before .before .before .before .before .before .before .if2 .left)) (w .there) (kindat .ensures resp2 (c .before .before .before .before .before .before .before .before .all2 .ensures) ∙ ap (kindOf resp2) (w .byte))
     (subst (λ (x : ℕ). Laid (run (topP (e .depth - 1) (kindat .result)) (e .s .now) (rowsof .result) x 1) (e .t .now) (top .last .1 .0) (top .result)) p (top .ensures)))
     (c .answer .ensures)
 
 returns-4 : tie.Need-returns-4
 returns-4 c =
-    let e = c .before .before .before .before .before .before .before .before .before .args in
-    let byte = c .before .before .byte in
-    let if2 = c .before .before .before .before .if2 in
-    let rowsof = c .before .before .before .before .before .rows-of in
-    let if1 = c .before .before .before .before .before .before .if1 in
+    let e = c .before .before .before .before .before .before .before .before .args in
+    let rowsof = c .before .before .before .before .rows-of in
     decoded resp2 (e .depth) (e .s .now) (e .at) (e .t .now) _ (rowsof .result) (rowsof .ensures)
-    (no-byte (e .depth) (e .s .now) (rowsof .result) (e .at) (if1 .left) (omega (arith, if2 .left)) _ (taken-more (e .s .now) (e .at) (sym (c .enum-told .given .1) ∙ byte .ensures))) refl
+    (no-byte (e .depth) (e .s .now) (rowsof .result) (e .at) (c .before .before .before .before .before .if1 .left) (omega (arith, c .before .before .before .if2 .left)) _ (taken-more (e .s .now) (e .at) (sym (c .enum-told .given .1) ∙ c .before .before .byte .ensures))) refl
 
 pub decode-at-spec : {M : Type 1} → statement M
 decode-at-spec =
@@ -110,9 +94,9 @@ decode-at-spec =
     returns
     rows-of-requires
     returns-2
-    all2-requires
     byte-requires
     enum-known-b
+    all2-requires
     kind-at-requires
     sub-top
     top-requires

@@ -3,8 +3,7 @@ use Prim.Native.Nat.{_+_}
 use native.Mathlib.Omega.{arith}
 use Rattle.meaning.specs.Kinds.{resp2, Array}
 use Rattle.meaning.specs.Frames.{frameP, restP, holder}
-use Rattle.walk.proofs.Top.{tried}
-use Rattle.resp2.proofs.Tops.{untried}
+use Rattle.walk.proofs.Top.{tried, untried}
 use borrow.Author.Needs.{needs}
 use Rattle.resp2.proofs.few.Statement.{statement}
 use Rattle.resp2.proofs.few.Tie as tie
