@@ -6,7 +6,7 @@ use lib.Dec.{leb, ltb}
 use lib.ListN.{length, getD}
 use lib.Seq.{sets}
 use Rattle.meaning.specs.Choice.{pick}
-use Rattle.meaning.specs.Rows.{Node, rowWidth, mostRows}
+use Rattle.meaning.specs.Rows.{Node, nodeOf, rowWidth, mostRows}
 use Rattle.rows.specs.declared.Row.{Row}
 
 -- a row's words in their order
@@ -16,6 +16,10 @@ rowWords r = r .kind ∷ r .w1 ∷ r .w2 ∷ r .w3 ∷ r .span ∷ r .attribute 
 -- a frame's row: its node, and how many rows it takes
 abbrev pub rowOf : Node → ℕ → Row
 rowOf h n = record { kind = h .kind; w1 = h .w1; w2 = h .w2; w3 = h .w3; span = n; attribute = h .attribute }
+
+-- a row's node
+abbrev pub nodeIn : Row → Node
+nodeIn r = nodeOf (r .kind) (r .w1) (r .w2) (r .w3) (r .attribute)
 
 -- the table with a row written; as it was, where it has no such row
 unfoldable pub putRow : List ℕ → ℕ → Row → List ℕ

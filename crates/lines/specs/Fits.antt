@@ -1,0 +1,49 @@
+-- Which rows have bytes, kind by kind.
+use mathlib.Core.Path.{_≡_}
+use mathlib.Core.List.{List}
+use mathlib.Core.Bool.{Bool, true, false, _&&_, _||_}
+use Prim.Native.Nat.{ℕ}
+use lib.Dec.{eqb, leb}
+use lib.ListN.{length}
+use borrow.Author.Tests.{eq-eqb, ne-eqb}
+use Rattle.meaning.specs.Kinds.{resp2, SimpleString, SimpleError, Number, Null, BlobString, Array}
+use Rattle.meaning.specs.Rows.{Node}
+use Rattle.meaning.specs.Encode.{rowFits}
+
+abbrev pub hasText : ℕ → Bool
+hasText k = eqb k SimpleString || eqb k SimpleError || eqb k BlobString
+
+-- whether words 1 and 2 are the ends of a text in s
+abbrev pub liesIn : List ℕ → ℕ → ℕ → Bool
+liesIn s from to = leb from to && leb to (length s)
+
+-- whether two words are 0
+abbrev pub blankWords : ℕ → ℕ → Bool
+blankWords a b = eqb a 0 && eqb b 0
+
+pub marked-fits : (s : List ℕ) (h : Node) → (h .attribute ≡ 0 → ⊥) → rowFits resp2 s h ≡ false
+unfolding rowFits
+marked-fits s h a = rw (ne-eqb (h .attribute) 0 a)
+
+module _ (s : List ℕ) (h : Node) (a : h .attribute ≡ 0) where
+  pub text-fits : hasText (h .kind) ≡ true → rowFits resp2 s h ≡ (liesIn s (h .w1) (h .w2) && eqb (h .w3) 0)
+  unfolding rowFits
+  text-fits t = rw (eq-eqb (h .attribute) 0 a, t)
+
+  module _ (t : hasText (h .kind) ≡ false) where
+    pub number-fits : h .kind ≡ Number → rowFits resp2 s h ≡ blankWords (h .w2) (h .w3)
+    unfolding rowFits
+    number-fits k = rw (eq-eqb (h .attribute) 0 a, t, k)
+
+    pub null-fits : h .kind ≡ Null → rowFits resp2 s h ≡ (eqb (h .w1) 0 && eqb (h .w2) 0 && eqb (h .w3) 0)
+    unfolding rowFits
+    null-fits k = rw (eq-eqb (h .attribute) 0 a, t, k)
+
+    pub array-fits : h .kind ≡ Array → rowFits resp2 s h ≡ blankWords (h .w1) (h .w2)
+    unfolding rowFits
+    array-fits k = rw (eq-eqb (h .attribute) 0 a, t, k)
+
+    pub other-fits : (h .kind ≡ Number → ⊥) → (h .kind ≡ Null → ⊥) → (h .kind ≡ Array → ⊥) → rowFits resp2 s h ≡ false
+    unfolding rowFits
+    other-fits n u k =
+        rw (eq-eqb (h .attribute) 0 a, t, ne-eqb (h .kind) Number n, ne-eqb (h .kind) Null u, ne-eqb (h .kind) Array k)

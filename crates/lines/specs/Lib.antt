@@ -1,0 +1,2 @@
+-- What the bytes of a row are promised to be, and their laws.
+pub mod Fits
