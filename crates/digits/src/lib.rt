@@ -3,8 +3,9 @@
 ghost use mathlib.Core.Path.{_≡_};
 ghost use Prim.Native.Nat.{_≤_, _<_};
 ghost use lib.IntN.{natAbs};
+ghost use lib.ListN.{length};
 ghost use lib.Seq.{sets};
-ghost use Rattle.meaning.specs.Digits.{padded, zeros, digitsOf, signedDigitsOf, negated};
+ghost use Rattle.meaning.specs.Digits.{padded, zeros, digitsOf, signedDigitsOf, negated, shown};
 ghost use Rattle.digits.specs.Shows.{Shows};
 ghost use Rattle.digits.specs.Steps.{Follows, tensDigit, onesDigit, Small, PartsOf, value, GroupsOf, asMeant};
 
@@ -138,6 +139,13 @@ fn unused(n: u64) -> usize
         return 4 + short(n / 1000000000000);
     }
     short(n / 10000000000000000)
+}
+
+// How many digits n has.
+pub fn width(n: u64) -> usize
+    ensures { λ r. ⌜ r ≡ length (shown (digitsOf n)) ⌝ }
+{
+    20 - unused(n)
 }
 
 pub fn u64_to_digits(n: u64) -> Digits

@@ -1,4 +1,4 @@
--- Laws of digits: how they split, where the leading zeros end, and that a number's digits are read back as that number.
+-- Laws of digits: how they split, where the leading zeros end, which are used, and that a number's digits are read back as that number.
 use mathlib.Core.Path.{_≡_, refl, sym, ap, _∙_}
 use mathlib.Core.Logic.{⊎-elim}
 use mathlib.Core.List.{List, [], _∷_, _++_, append-assoc, append-nil}
@@ -11,13 +11,13 @@ use native.Mathlib.Omega.{arith}
 use lib.Arith.{mod-mul, digits-div, digits-mod}
 use lib.IntN.{ℤ, pos, negsuc}
 use lib.ListN.{length, length-append, length-drop, length-set, drop, set, replicate}
-use lib.Seq.{drop-cons, drop-set-lt, getD-set-same, lt-length-set}
+use lib.Seq.{drop-at, drop-cons, drop-set-lt, getD-set-same, lt-length-set}
 use lib.Signed.{mag}
 use lib.Dec.{eqb}
 use mathlib.Core.Option.{none, some}
-use borrow.Author.Tests.{eqb-true, ne-eqb, le-leb, lt-ltb}
+use borrow.Author.Tests.{eqb-true, ne-eqb, le-leb, lt-ltb, le-ltb}
 use Rattle.meaning.specs.Choice.{pick}
-use Rattle.meaning.specs.Digits.{padded, zeros, digitsOf, negated, signedDigitsOf, shown}
+use Rattle.meaning.specs.Digits.{padded, zeros, digitsOf, negated, signedDigitsOf, signedWord, shown}
 use Rattle.meaning.specs.Text.{digitsFrom, digits, isDigit, plainLength, count, signed, Num, plus, minus}
 
 ten-pos : (k : ℕ) → 0 < 10 ^ k
@@ -147,6 +147,53 @@ unfolding digitsOf negated signedDigitsOf
 signed-unused (pos n) = zeros-padded 19 n
 signed-unused (negsuc n) = omega (arith, zeros-padded 19 (suc n))
 
+-- ---- the used bytes
+
+-- the last digits, as many as are used
+pub shown-padded : (n : ℕ) → shown (digitsOf n) ≡ padded (20 - zeros (padded 20 n)) n
+unfolding digitsOf
+shown-padded n =
+    let u : ℕ = zeros (padded 20 n) in
+    let k : ℕ = 20 - u in
+    let all : 20 ≡ u + k = omega (arith, zeros-padded 19 n) in
+    ap (λ (m : ℕ). drop u (padded m n)) all
+    ∙ ap (drop u) (padded-split u k n)
+    ∙ drop-at (padded u (n / 10 ^ k)) (padded k n) u (length-padded u (n / 10 ^ k))
+
+pub shown-length : (n : ℕ) → length (shown (digitsOf n)) ≡ 20 - zeros (padded 20 n)
+shown-length n = ap length (shown-padded n) ∙ length-padded (20 - zeros (padded 20 n)) n
+
+pub shown-most : (n : ℕ) → length (shown (digitsOf n)) ≤ 20
+shown-most n = omega (arith, shown-length n)
+
+pub signed-most : (z : ℤ) → length (shown (signedDigitsOf z)) ≤ 20
+signed-most z = omega (arith, length-drop (signedDigitsOf z .unused) (signedDigitsOf z .bytes), signed-length z)
+
+drop-set : (l : List ℕ) (j a : ℕ) → j < length l → drop j (set l j a) ≡ a ∷ drop (suc j) l
+drop-set l j a h =
+    drop-cons (set l j a) j 0 (lt-length-set l j a h) ∙ rw (getD-set-same l j a 0 h, drop-set-lt (suc j) l j a (omega arith))
+
+-- a negative number's are the sign and its magnitude's
+pub shown-minus : (n : ℕ) → suc n < 10 ^ 19 → shown (signedDigitsOf (negsuc n)) ≡ code "-" ∷ shown (digitsOf (suc n))
+unfolding signedDigitsOf negated digitsOf
+shown-minus n h =
+    let s : List ℕ = padded 20 (suc n) in
+    let u : ℕ = zeros s in
+    let first : u ≡ 1 + zeros (padded 19 (suc n)) = zeros-skip 1 18 (suc n) h in
+    let place : suc (u - 1) ≡ u = omega arith in
+    let inside : u - 1 < length s = omega (arith, length-padded 20 (suc n), zeros-padded 19 (suc n)) in
+    drop-set s (u - 1) (code "-") inside ∙ ap (λ (k : ℕ). code "-" ∷ drop k s) place
+
+-- those of the number that a word is
+pub shown-word : (w : ℕ) → w < 2 ^ 63 → shown (signedDigitsOf (signedWord w)) ≡ shown (digitsOf w)
+unfolding signedDigitsOf
+shown-word w h = rw (lt-ltb w (2 ^ 63) h)
+
+pub shown-minus-word : (w : ℕ) → 2 ^ 63 ≤ w → w < 2 ^ 64 → shown (signedDigitsOf (signedWord w)) ≡ code "-" ∷ shown (digitsOf (2 ^ 64 - w))
+shown-minus-word w h l =
+    let e : suc (2 ^ 64 - w - 1) ≡ 2 ^ 64 - w = omega arith in
+    rw (le-ltb w (2 ^ 63) h) (shown-minus (2 ^ 64 - w - 1) (omega arith) ∙ ap (λ (m : ℕ). code "-" ∷ shown (digitsOf m)) e)
+
 -- ---- read back: the digits of a number are a text of that number
 
 read-digit : (a d : ℕ) (s : List ℕ) → d < 10 → digitsFrom a ((48 + d) ∷ s) ≡ digitsFrom (a * 10 + d) s
@@ -214,22 +261,12 @@ pub read-minus : (s : List ℕ) (n : ℕ) → digits s ≡ some (suc n) → n < 
 unfolding signed
 read-minus s n e h = rw (e, ne-eqb (suc n) 0 (λ q. omega arith), le-leb (suc n) (2 ^ 63) h)
 
-drop-set : (l : List ℕ) (j a : ℕ) → j < length l → drop j (set l j a) ≡ a ∷ drop (suc j) l
-drop-set l j a h =
-    drop-cons (set l j a) j 0 (lt-length-set l j a h) ∙ rw (getD-set-same l j a 0 h, drop-set-lt (suc j) l j a (omega arith))
-
 abbrev pub numberOf : ℤ → Num
 numberOf (pos n) = plus n
 numberOf (negsuc n) = minus (suc n)
 
 pub read-signed : (z : ℤ) → mag z < 2 ^ 63 → signed (shown (signedDigitsOf z)) ≡ some (numberOf z)
-unfolding signedDigitsOf negated digitsOf
+unfolding signedDigitsOf
 read-signed (pos n) h = read-plus (shown (digitsOf n)) n (read-shown n (omega arith)) h
 read-signed (negsuc n) h =
-    let s : List ℕ = padded 20 (suc n) in
-    let u : ℕ = zeros s in
-    let first : u ≡ 1 + zeros (padded 19 (suc n)) = zeros-skip 1 18 (suc n) (omega arith) in
-    let place : suc (u - 1) ≡ u = omega arith in
-    let inside : u - 1 < length s = omega (arith, length-padded 20 (suc n), zeros-padded 19 (suc n)) in
-    ap signed (drop-set s (u - 1) (code "-") inside ∙ ap (λ (k : ℕ). code "-" ∷ drop k s) place)
-    ∙ read-minus (drop u s) n (read-shown (suc n) (omega arith)) h
+    ap signed (shown-minus n (omega arith)) ∙ read-minus (shown (digitsOf (suc n))) n (read-shown (suc n) (omega arith)) h
