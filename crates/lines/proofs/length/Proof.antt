@@ -1,0 +1,123 @@
+-- `lines::length` meets its contract, kind by kind.
+use mathlib.Core.Path.{sym, ap, _∙_}
+use Prim.Native.Nat.{ℕ, _+_}
+use native.Mathlib.Omega.{arith}
+use lib.ListN.{length}
+use Rattle.meaning.specs.Digits.{digitsOf, shown, signedWord}
+use Rattle.meaning.specs.DigitLaws.{shown-most, signed-most}
+use Rattle.lines.specs.Fits.{hasText, text-lies}
+use Rattle.lines.specs.LineLaws.{bulk-integer-size, integer-size, array-size, simple-size, error-size, blob-size, null-line}
+use borrow.Author.Needs.{needs}
+use Rattle.lines.proofs.length.Statement.{statement}
+use Rattle.lines.proofs.length.Tie as tie
+
+integer-width-requires : tie.Need-integer-width-requires
+integer-width-requires c κs = search needs
+
+bulk-length-requires : tie.Need-bulk-length-requires
+bulk-length-requires c κs =
+    let n = c .before in
+    omega (arith, n .integer-width .ensures, signed-most (signedWord (n .before .before .before .before .args .r .w1)))
+
+returns : tie.Need-returns
+returns c =
+    let n = c .before .before in
+    c .bulk-length .ensures
+    ∙ ap (λ (m : ℕ). length (shown (digitsOf m)) + m + 5) (n .integer-width .ensures)
+    ∙ sym (bulk-integer-size _ _ _ (n .before .if1 .taken) (c .before .if2 .taken))
+
+add-result : tie.Need-add-result
+add-result c =
+    let n = c .before in
+    omega (arith, n .integer-width .ensures, signed-most (signedWord (n .before .before .before .before .args .r .w1)))
+
+returns-2 : tie.Need-returns-2
+returns-2 c =
+    let n = c .before in
+    ap (λ (m : ℕ). m + 3) (n .integer-width .ensures) ∙ sym (integer-size _ _ _ (n .before .if1 .taken) (c .if2 .left))
+
+sub-bulk-length : tie.Need-sub-bulk-length
+sub-bulk-length c =
+    let s = c .before .before .before .before .before .before in
+    omega (arith, text-lies _ _ (s .pre .0) (ap hasText (c .before .if3 .taken)))
+
+bulk-length-requires-2 : tie.Need-bulk-length-requires-2
+bulk-length-requires-2 c κs =
+    let s = c .before .before .before .before .before .before in
+    omega (arith, s .pre .1, text-lies _ _ (s .pre .0) (ap hasText (c .before .if3 .taken)))
+
+returns-3 : tie.Need-returns-3
+returns-3 c =
+    let k = c .before .before in
+    let s = k .before .before .before .before .before in
+    c .bulk-length2 .ensures ∙ sym (blob-size _ _ _ (s .pre .0) (k .if3 .taken))
+
+width-requires : tie.Need-width-requires
+width-requires c κs = search needs
+
+add-result-2 : tie.Need-add-result-2
+add-result-2 c = omega (arith, c .width .ensures, shown-most (c .before .before .before .before .before .before .before .before .args .r .w3))
+
+returns-4 : tie.Need-returns-4
+returns-4 c = ap (λ (m : ℕ). m + 3) (c .width .ensures) ∙ sym (array-size _ _ _ (c .before .if4 .taken))
+
+sub-result : tie.Need-sub-result
+sub-result c =
+    let s = c .before .before .before .before .before .before .before .before .before .before in
+    omega (arith, text-lies _ _ (s .pre .0) (ap hasText (c .before .if5 .taken)))
+
+add-result-3 : tie.Need-add-result-3
+add-result-3 c =
+    let s = c .before .before .before .before .before .before .before .before .before .before in
+    omega (arith, s .pre .1, text-lies _ _ (s .pre .0) (ap hasText (c .before .if5 .taken)))
+
+returns-5 : tie.Need-returns-5
+returns-5 c =
+    let s = c .before .before .before .before .before .before .before .before .before .before in
+    sym (simple-size _ _ _ (s .pre .0) (c .before .if5 .taken))
+
+sub-result-2 : tie.Need-sub-result-2
+sub-result-2 c =
+    let s = c .before .before .before .before .before .before .before .before .before .before .before .before in
+    omega (arith, text-lies _ _ (s .pre .0) (ap hasText (c .before .if6 .taken)))
+
+add-result-4 : tie.Need-add-result-4
+add-result-4 c =
+    let s = c .before .before .before .before .before .before .before .before .before .before .before .before in
+    omega (arith, s .pre .1, text-lies _ _ (s .pre .0) (ap hasText (c .before .if6 .taken)))
+
+returns-6 : tie.Need-returns-6
+returns-6 c =
+    let s = c .before .before .before .before .before .before .before .before .before .before .before .before in
+    sym (error-size _ _ _ (s .pre .0) (c .before .if6 .taken))
+
+returns-7 : tie.Need-returns-7
+returns-7 c =
+    let e = c .before .before in
+    let a = e .before .before in
+    let b = a .before .before in
+    let n = b .before .before in
+    sym (ap length (null-line _ _ _ (e .if5 .left) (c .if6 .left) (n .if1 .left) (b .if3 .left) (a .if4 .left)))
+
+pub length-spec : {M : Type 1} → statement M
+length-spec =
+    tie.close
+    (tie.spec
+    integer-width-requires
+    bulk-length-requires
+    returns
+    add-result
+    returns-2
+    sub-bulk-length
+    bulk-length-requires-2
+    returns-3
+    width-requires
+    add-result-2
+    returns-4
+    sub-result
+    add-result-3
+    returns-5
+    sub-result-2
+    add-result-4
+    returns-6
+    returns-7)
