@@ -1,6 +1,6 @@
 -- A row's bytes, kind by kind, and how many they are.
 use mathlib.Core.Path.{_≡_, ap, _∙_}
-use mathlib.Core.List.{List, [], _∷_, _++_}
+use mathlib.Core.List.{List, _∷_, _++_}
 use mathlib.Core.Bool.{Bool, true, false, _||_}
 use Prim.Native.Nat.{ℕ, _+_, _-_, _≤_}
 use Prim.Native.Char.{code}
@@ -9,7 +9,6 @@ use lib.Dec.{eqb}
 use lib.ListN.{length, length-append, length-take, length-drop, drop}
 use borrow.Author.Tests.{ne-eqb}
 use Rattle.meaning.specs.Choice.{pick}
-use Rattle.meaning.specs.Demand.{CR, LF}
 use Rattle.meaning.specs.Kinds.{resp2, typeByte, byteIn, SimpleString, SimpleError, Number, BlobString, Array}
 use Rattle.meaning.specs.Rows.{Node}
 use Rattle.meaning.specs.Text.{codes}
@@ -17,6 +16,10 @@ use Rattle.meaning.specs.Digits.{digitsOf, shown, signedWord}
 use Rattle.meaning.specs.DigitLaws.{shown-most, signed-most}
 use Rattle.meaning.specs.Encode.{rowFits, lineOf, lineFor, countFor, bulkFor, integerFor, integerText, textIn, crlf}
 use Rattle.lines.specs.Fits.{hasText, text-lies}
+
+-- Null's bytes
+abbrev pub nullLine : List ℕ
+nullLine = code "$" ∷ code "-" ∷ code "1" ∷ crlf
 
 module _ (s : List ℕ) (flag : Bool) (h : Node) where
   pub simple-line : h .kind ≡ SimpleString → lineOf resp2 s flag h ≡ code "+" ∷ (textIn s h ++ crlf)
@@ -27,21 +30,25 @@ module _ (s : List ℕ) (flag : Bool) (h : Node) where
   unfolding lineOf typeByte byteIn
   error-line k = rw k
 
-  pub number-line : h .kind ≡ Number → lineOf resp2 s flag h ≡ integerFor resp2 flag (integerText (h .w1))
+  pub integer-line : h .kind ≡ Number → flag ≡ false → lineOf resp2 s flag h ≡ lineFor resp2 Number (integerText (h .w1))
   unfolding lineOf
-  number-line k = rw k
+  integer-line k f = rw (k, f)
+
+  pub bulk-integer-line : h .kind ≡ Number → flag ≡ true → lineOf resp2 s flag h ≡ bulkFor resp2 BlobString (integerText (h .w1))
+  unfolding lineOf
+  bulk-integer-line k f = rw (k, f)
 
   pub blob-line : h .kind ≡ BlobString → lineOf resp2 s flag h ≡ bulkFor resp2 BlobString (textIn s h)
   unfolding lineOf
   blob-line k = rw k
 
-  pub array-line : h .kind ≡ Array → lineOf resp2 s flag h ≡ countFor resp2 Array (h .w3)
-  unfolding lineOf
+  pub array-line : h .kind ≡ Array → lineOf resp2 s flag h ≡ code "*" ∷ (shown (digitsOf (h .w3)) ++ crlf)
+  unfolding lineOf typeByte byteIn
   array-line k = rw k
 
   -- a row of no other kind is written as Null
   pub null-line : (h .kind ≡ SimpleString → ⊥) → (h .kind ≡ SimpleError → ⊥) → (h .kind ≡ Number → ⊥) → (h .kind ≡ BlobString → ⊥) → (h .kind ≡ Array → ⊥)
-      → lineOf resp2 s flag h ≡ code "$" ∷ code "-" ∷ code "1" ∷ CR ∷ LF ∷ []
+      → lineOf resp2 s flag h ≡ nullLine
   unfolding lineOf typeByte byteIn codes
   null-line a b c d e =
       rw (ne-eqb (h .kind) SimpleString a, ne-eqb (h .kind) SimpleError b, ne-eqb (h .kind) Number c, ne-eqb (h .kind) BlobString d, ne-eqb (h .kind) Array e)
@@ -62,10 +69,10 @@ text-length s h f t =
 module _ (s : List ℕ) (flag : Bool) (h : Node) where
   pub bulk-integer-size : h .kind ≡ Number → flag ≡ true
       → length (lineOf resp2 s flag h) ≡ length (shown (digitsOf (length (integerText (h .w1))))) + length (integerText (h .w1)) + 5
-  bulk-integer-size k f = rw (number-line s flag h k, f) (bulk-length BlobString (integerText (h .w1)))
+  bulk-integer-size k f = rw (bulk-integer-line s flag h k f) (bulk-length BlobString (integerText (h .w1)))
 
   pub integer-size : h .kind ≡ Number → flag ≡ false → length (lineOf resp2 s flag h) ≡ length (integerText (h .w1)) + 3
-  integer-size k f = rw (number-line s flag h k, f) (line-length Number (integerText (h .w1)))
+  integer-size k f = rw (integer-line s flag h k f) (line-length Number (integerText (h .w1)))
 
   pub array-size : h .kind ≡ Array → length (lineOf resp2 s flag h) ≡ length (shown (digitsOf (h .w3))) + 3
   array-size k = rw (array-line s flag h k) (line-length Array (shown (digitsOf (h .w3))))

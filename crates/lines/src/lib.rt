@@ -2,13 +2,17 @@
 use rows::Row;
 ghost use mathlib.Core.Path.{_≡_};
 ghost use mathlib.Core.Bool.{true};
-ghost use Prim.Native.Nat.{_+_, _-_, _^_, _≤_};
+ghost use mathlib.Core.List.{[], _∷_, _++_};
+ghost use Prim.Native.Nat.{_+_, _-_, _^_, _<_, _≤_};
 ghost use lib.ListN.{length};
-ghost use Rattle.meaning.specs.Kinds.{resp2};
+ghost use lib.Seq.{sets};
+ghost use Rattle.meaning.specs.Kinds.{resp2, Number, BlobString};
 ghost use Rattle.meaning.specs.Digits.{digitsOf, shown};
-ghost use Rattle.meaning.specs.Encode.{rowFits, lineOf, integerText, sourceLimit};
+ghost use Rattle.meaning.specs.Encode.{rowFits, lineOf, lineFor, bulkFor, integerText, crlf, sourceLimit};
 ghost use Rattle.rows.specs.Put.{nodeIn};
 ghost use Rattle.lines.specs.Fits.{hasText, liesIn, blankWords};
+ghost use Rattle.lines.specs.LineLaws.{nullLine};
+ghost use Rattle.lines.specs.Puts.{Puts};
 
 const SIMPLE_STRING: u64 = kinds::SIMPLE_STRING as u64;
 
@@ -133,4 +137,149 @@ pub fn length(s: &[u8], r: Row, flag: bool) -> u64
         return r.w2 - r.w1 + 3;
     }
     5
+}
+
+fn put_byte(out: &mut [u8], at: usize, b: u8) -> usize
+    requires { ⌜ at < length (now out) ⌝ }
+    ensures { λ r. ⌜ Puts (b ∷ []) (now (out .entry)) at (now (out .exit)) r ⌝ }
+{
+    out[at] = b;
+    at + 1
+}
+
+// CR LF.
+fn put_end(out: &mut [u8], at: usize) -> usize
+    requires { ⌜ at + 2 ≤ length (now out) ⌝ }
+    ensures { λ r. ⌜ Puts crlf (now (out .entry)) at (now (out .exit)) r ⌝ }
+{
+    out[at] = b'\r';
+    out[at + 1] = b'\n';
+    at + 2
+}
+
+fn put_text(out: &mut [u8], at: usize, text: &[u8]) -> usize
+    requires { ⌜ at + length (now text) ≤ length (now out) ⌝ }
+    ensures { λ r. ⌜ Puts (now (text .entry)) (now (out .entry)) at (now (out .exit)) r ⌝ }
+{
+    let end = at + text.len();
+    bytes::copy(text, &mut out[at..end]);
+    end
+}
+
+// The digits of n, from the last one on: no table of digits is built for a row.
+fn put_digits(out: &mut [u8], at: usize, n: u64) -> usize
+    requires { ⌜ at + length (shown (digitsOf n)) ≤ length (now out) ⌝ }
+    ensures { λ r. ⌜ Puts (shown (digitsOf n)) (now (out .entry)) at (now (out .exit)) r ⌝ }
+{
+    let end = at + digits::width(n);
+    let mut p = end;
+    let mut left = n;
+    while at < p {
+        p = p - 1;
+        out[p] = b'0' + (left % 10) as u8;
+        left = left / 10;
+    }
+    end
+}
+
+// The digits of the number that a word is, with its sign.
+fn put_number(out: &mut [u8], at: usize, w: u64) -> usize
+    requires { ⌜ at + length (integerText w) ≤ length (now out) ⌝ }
+    ensures { λ r. ⌜ Puts (integerText w) (now (out .entry)) at (now (out .exit)) r ⌝ }
+{
+    if w < 9223372036854775808 {
+        return put_digits(out, at, w);
+    }
+    let p = put_byte(out, at, b'-');
+    put_digits(out, p, magnitude(w))
+}
+
+// A type byte and a line.
+fn put_line(out: &mut [u8], at: usize, b: u8, text: &[u8]) -> usize
+    requires { ⌜ at + (length (now text) + 3) ≤ length (now out) ⌝ }
+    ensures { λ r. ⌜ Puts (b ∷ (now (text .entry) ++ crlf)) (now (out .entry)) at (now (out .exit)) r ⌝ }
+{
+    let p = put_byte(out, at, b);
+    let q = put_text(out, p, text);
+    put_end(out, q)
+}
+
+// A type byte and a count.
+fn put_count(out: &mut [u8], at: usize, b: u8, n: u64) -> usize
+    requires { ⌜ at + (length (shown (digitsOf n)) + 3) ≤ length (now out) ⌝ }
+    ensures { λ r. ⌜ Puts (b ∷ (shown (digitsOf n) ++ crlf)) (now (out .entry)) at (now (out .exit)) r ⌝ }
+{
+    let p = put_byte(out, at, b);
+    let q = put_digits(out, p, n);
+    put_end(out, q)
+}
+
+// A bulk string: its length, and the text.
+fn put_bulk(out: &mut [u8], at: usize, text: &[u8]) -> usize
+    requires { ⌜ at + (length (shown (digitsOf (length (now text)))) + length (now text) + 5) ≤ length (now out) ⌝ }
+    ensures { λ r. ⌜ Puts (bulkFor resp2 BlobString (now (text .entry))) (now (out .entry)) at (now (out .exit)) r ⌝ }
+{
+    let p = put_count(out, at, b'$', text.len() as u64);
+    let q = put_text(out, p, text);
+    put_end(out, q)
+}
+
+// The integer that a word is.
+fn put_integer(out: &mut [u8], at: usize, w: u64) -> usize
+    requires { ⌜ at + (length (integerText w) + 3) ≤ length (now out) ⌝ }
+    ensures { λ r. ⌜ Puts (lineFor resp2 Number (integerText w)) (now (out .entry)) at (now (out .exit)) r ⌝ }
+{
+    let p = put_byte(out, at, b':');
+    let q = put_number(out, p, w);
+    put_end(out, q)
+}
+
+// The same as a bulk string.
+fn put_bulk_integer(out: &mut [u8], at: usize, w: u64) -> usize
+    requires { ⌜ at + (length (shown (digitsOf (length (integerText w)))) + length (integerText w) + 5) ≤ length (now out) ⌝ }
+    ensures { λ r. ⌜ Puts (bulkFor resp2 BlobString (integerText w)) (now (out .entry)) at (now (out .exit)) r ⌝ }
+{
+    let p = put_count(out, at, b'$', integer_width(w) as u64);
+    let q = put_number(out, p, w);
+    put_end(out, q)
+}
+
+fn put_null(out: &mut [u8], at: usize) -> usize
+    requires { ⌜ at + 5 ≤ length (now out) ⌝ }
+    ensures { λ r. ⌜ Puts nullLine (now (out .entry)) at (now (out .exit)) r ⌝ }
+{
+    let p = put_byte(out, at, b'$');
+    let q = put_byte(out, p, b'-');
+    let e = put_byte(out, q, b'1');
+    put_end(out, e)
+}
+
+// Puts a row's own bytes at a place, and gives the place behind them. With the flag an integer is a bulk string.
+pub fn put(out: &mut [u8], at: usize, s: &[u8], r: Row, flag: bool) -> usize
+    requires { ⌜ (rowFits resp2 (now s) (nodeIn r) ≡ true) × (length (now s) ≤ sourceLimit) ⌝ }
+    requires { ⌜ at + length (lineOf resp2 (now s) flag (nodeIn r)) ≤ length (now out) ⌝ }
+    ensures { λ p. ⌜ p ≡ at + length (lineOf resp2 (now (s .entry)) flag (nodeIn r)) ⌝ }
+    ensures { λ _. ⌜ now (out .exit) ≡ sets (now (out .entry)) at (lineOf resp2 (now (s .entry)) flag (nodeIn r)) ⌝ }
+{
+    if r.kind == NUMBER {
+        if flag {
+            return put_bulk_integer(out, at, r.w1);
+        }
+        return put_integer(out, at, r.w1);
+    }
+    if r.kind == ARRAY {
+        return put_count(out, at, b'*', r.w3);
+    }
+    let from = r.w1 as usize;
+    let to = r.w2 as usize;
+    if r.kind == BLOB_STRING {
+        return put_bulk(out, at, &s[from..to]);
+    }
+    if r.kind == SIMPLE_STRING {
+        return put_line(out, at, b'+', &s[from..to]);
+    }
+    if r.kind == SIMPLE_ERROR {
+        return put_line(out, at, b'-', &s[from..to]);
+    }
+    put_null(out, at)
 }

@@ -1,0 +1,201 @@
+-- `lines::put` meets its contract, kind by kind.
+use mathlib.Core.Path.{_≡_, sym, ap}
+use mathlib.Core.List.{List}
+use Prim.Native.Nat.{ℕ, _+_}
+use native.Mathlib.Omega.{arith}
+use lib.ListN.{length}
+use lib.Seq.{sets}
+use Rattle.meaning.specs.Kinds.{SimpleString, SimpleError, BlobString}
+use Rattle.meaning.specs.Encode.{textIn}
+use Rattle.rows.specs.Put.{nodeIn}
+use Rattle.lines.specs.Fits.{hasText, text-lies}
+use Rattle.lines.specs.LineLaws.{simple-line, error-line, integer-line, bulk-integer-line, blob-line, array-line, null-line, line-length, bulk-length, bulk-integer-size, integer-size, array-size}
+use Rattle.lines.specs.Puts.{Puts, puts-as}
+use borrow.Author.Needs.{needs}
+use Rattle.lines.proofs.put.Statement.{statement}
+use Rattle.lines.proofs.put.Tie as tie
+
+-- what was put is the row's line
+told : {line x l m : List ℕ} {at p : ℕ} → line ≡ x → Puts x l at m p → (p ≡ at + length line) × (m ≡ sets l at line)
+told e a = let b = puts-as (sym e) a in (b .next, b .leaves)
+
+put-bulk-integer-requires : tie.Need-put-bulk-integer-requires
+put-bulk-integer-requires c κs =
+    let f = c .before in
+    let s = f .before .before .before .before .before in
+    omega (arith, s .pre .1, bulk-integer-size (s .args .s .now) (s .args .flag) (nodeIn (s .args .r)) (f .before .if1 .taken) (f .if2 .taken))
+
+same-length : tie.Need-same-length
+same-length c = search needs
+
+returns : tie.Need-returns
+returns c =
+    let p = c .before .before in
+    let f = p .before .before in
+    told (bulk-integer-line _ _ _ (f .before .if1 .taken) (f .if2 .taken)) (p .put-bulk-integer .ensures)
+
+put-integer-requires : tie.Need-put-integer-requires
+put-integer-requires c κs =
+    let f = c .before in
+    let s = f .before .before .before .before .before in
+    omega (arith, s .pre .1, integer-size (s .args .s .now) (s .args .flag) (nodeIn (s .args .r)) (f .before .if1 .taken) (f .if2 .left))
+
+same-length-2 : tie.Need-same-length-2
+same-length-2 c = search needs
+
+returns-2 : tie.Need-returns-2
+returns-2 c =
+    let p = c .before .before in
+    let f = p .before .before in
+    told (integer-line _ _ _ (f .before .if1 .taken) (f .if2 .left)) (p .put-integer .ensures)
+
+put-count-requires : tie.Need-put-count-requires
+put-count-requires c κs =
+    let k = c .before in
+    let s = k .before .before .before .before .before .before in
+    omega (arith, s .pre .1, array-size (s .args .s .now) (s .args .flag) (nodeIn (s .args .r)) (k .if3 .taken))
+
+same-length-3 : tie.Need-same-length-3
+same-length-3 c = search needs
+
+returns-3 : tie.Need-returns-3
+returns-3 c =
+    let p = c .before .before in
+    told (array-line _ _ _ (p .before .before .if3 .taken)) (p .put-count .ensures)
+
+sub-put-bulk : tie.Need-sub-put-bulk
+sub-put-bulk c =
+    let k = c .before in
+    omega (arith, text-lies _ _ (k .before .before .before .before .before .before .before .before .pre .0 .0) (ap hasText (k .if4 .taken)))
+
+part-put-bulk-start : tie.Need-part-put-bulk-start
+part-put-bulk-start c =
+    let k = c .before in
+    omega (arith, text-lies _ _ (k .before .before .before .before .before .before .before .before .pre .0 .0) (ap hasText (k .if4 .taken)))
+
+part-put-bulk-end : tie.Need-part-put-bulk-end
+part-put-bulk-end c =
+    let k = c .before in
+    omega (arith, text-lies _ _ (k .before .before .before .before .before .before .before .before .pre .0 .0) (ap hasText (k .if4 .taken)))
+
+put-bulk-requires : tie.Need-put-bulk-requires
+put-bulk-requires c κs =
+    let k = c .before .before in
+    let s = k .before .before .before .before .before .before .before .before in
+    omega (arith, s .pre .1, ap length (blob-line (s .args .s .now) (s .args .flag) (nodeIn (s .args .r)) (k .if4 .taken)), bulk-length BlobString (textIn (s .args .s .now) (nodeIn (s .args .r))))
+
+same-length-4 : tie.Need-same-length-4
+same-length-4 c = search needs
+
+returns-4 : tie.Need-returns-4
+returns-4 c =
+    let p = c .before .before in
+    told (blob-line _ _ _ (p .before .before .before .if4 .taken)) (p .put-bulk .ensures)
+
+sub-put-line : tie.Need-sub-put-line
+sub-put-line c =
+    let k = c .before in
+    omega (arith, text-lies _ _ (k .before .before .before .before .before .before .before .before .before .before .pre .0 .0) (ap hasText (k .if5 .taken)))
+
+part-put-line-start : tie.Need-part-put-line-start
+part-put-line-start c =
+    let k = c .before in
+    omega (arith, text-lies _ _ (k .before .before .before .before .before .before .before .before .before .before .pre .0 .0) (ap hasText (k .if5 .taken)))
+
+part-put-line-end : tie.Need-part-put-line-end
+part-put-line-end c =
+    let k = c .before in
+    omega (arith, text-lies _ _ (k .before .before .before .before .before .before .before .before .before .before .pre .0 .0) (ap hasText (k .if5 .taken)))
+
+put-line-requires : tie.Need-put-line-requires
+put-line-requires c κs =
+    let k = c .before .before in
+    let s = k .before .before .before .before .before .before .before .before .before .before in
+    omega (arith, s .pre .1, ap length (simple-line (s .args .s .now) (s .args .flag) (nodeIn (s .args .r)) (k .if5 .taken)), line-length SimpleString (textIn (s .args .s .now) (nodeIn (s .args .r))))
+
+same-length-5 : tie.Need-same-length-5
+same-length-5 c = search needs
+
+returns-5 : tie.Need-returns-5
+returns-5 c =
+    let p = c .before .before in
+    told (simple-line _ _ _ (p .before .before .before .if5 .taken)) (p .put-line .ensures)
+
+sub-put-line-2 : tie.Need-sub-put-line-2
+sub-put-line-2 c =
+    let k = c .before in
+    omega (arith, text-lies _ _ (k .before .before .before .before .before .before .before .before .before .before .before .before .pre .0 .0) (ap hasText (k .if6 .taken)))
+
+part-put-line-start-2 : tie.Need-part-put-line-start-2
+part-put-line-start-2 c =
+    let k = c .before in
+    omega (arith, text-lies _ _ (k .before .before .before .before .before .before .before .before .before .before .before .before .pre .0 .0) (ap hasText (k .if6 .taken)))
+
+part-put-line-end-2 : tie.Need-part-put-line-end-2
+part-put-line-end-2 c =
+    let k = c .before in
+    omega (arith, text-lies _ _ (k .before .before .before .before .before .before .before .before .before .before .before .before .pre .0 .0) (ap hasText (k .if6 .taken)))
+
+put-line-requires-2 : tie.Need-put-line-requires-2
+put-line-requires-2 c κs =
+    let k = c .before .before in
+    let s = k .before .before .before .before .before .before .before .before .before .before .before .before in
+    omega (arith, s .pre .1, ap length (error-line (s .args .s .now) (s .args .flag) (nodeIn (s .args .r)) (k .if6 .taken)), line-length SimpleError (textIn (s .args .s .now) (nodeIn (s .args .r))))
+
+same-length-6 : tie.Need-same-length-6
+same-length-6 c = search needs
+
+returns-6 : tie.Need-returns-6
+returns-6 c =
+    let p = c .before .before in
+    told (error-line _ _ _ (p .before .before .before .if6 .taken)) (p .put-line2 .ensures)
+
+put-null-requires : tie.Need-put-null-requires
+put-null-requires c κs =
+    let e = c .before in
+    let s = e .before .before .before .before .before .before .before .before .before .before .before .before in
+    omega (arith, s .pre .1, ap length (null-line (s .args .s .now) (s .args .flag) (nodeIn (s .args .r)) (e .before .before .if5 .left) (e .if6 .left) (e .before .before .before .before .before .before .before .before .if1 .left) (e .before .before .before .before .if4 .left) (e .before .before .before .before .before .before .if3 .left)))
+
+same-length-7 : tie.Need-same-length-7
+same-length-7 c = search needs
+
+returns-7 : tie.Need-returns-7
+returns-7 c =
+    let p = c .before .before in
+    let e = p .before .before in
+    told (null-line _ _ _ (e .before .before .if5 .left) (e .if6 .left) (e .before .before .before .before .before .before .before .before .if1 .left) (e .before .before .before .before .if4 .left) (e .before .before .before .before .before .before .if3 .left)) (p .put-null .ensures)
+
+pub put-spec : {M : Type 1} → statement M
+put-spec =
+    tie.close
+    (tie.spec
+    put-bulk-integer-requires
+    same-length
+    returns
+    put-integer-requires
+    same-length-2
+    returns-2
+    put-count-requires
+    same-length-3
+    returns-3
+    sub-put-bulk
+    part-put-bulk-start
+    part-put-bulk-end
+    put-bulk-requires
+    same-length-4
+    returns-4
+    sub-put-line
+    part-put-line-start
+    part-put-line-end
+    put-line-requires
+    same-length-5
+    returns-5
+    sub-put-line-2
+    part-put-line-start-2
+    part-put-line-end-2
+    put-line-requires-2
+    same-length-6
+    returns-6
+    put-null-requires
+    same-length-7
+    returns-7)
