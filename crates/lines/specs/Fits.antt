@@ -10,8 +10,12 @@ use Rattle.meaning.specs.Kinds.{resp2, SimpleString, SimpleError, Number, Null,
 use Rattle.meaning.specs.Rows.{Node}
 use Rattle.meaning.specs.Encode.{rowFits}
 
+-- a text on a line of its own
+abbrev pub isLine : ℕ → Bool
+isLine k = eqb k SimpleString || eqb k SimpleError
+
 abbrev pub hasText : ℕ → Bool
-hasText k = eqb k SimpleString || eqb k SimpleError || eqb k BlobString
+hasText k = isLine k || eqb k BlobString
 
 -- whether words 1 and 2 are the ends of a text in s
 abbrev pub liesIn : List ℕ → ℕ → ℕ → Bool
@@ -61,3 +65,9 @@ text-lies s h f t =
     let words = both (eqb (h .attribute) 0) (liesIn s (h .w1) (h .w2) && eqb (h .w3) 0) (rw t at f) .1 in
     let ends = both (leb (h .w1) (h .w2)) (leb (h .w2) (length s)) (both (liesIn s (h .w1) (h .w2)) (eqb (h .w3) 0) words .0) in
     (leb-true (h .w1) (h .w2) (ends .0), leb-true (h .w2) (length s) (ends .1))
+
+pub line-text : (k : ℕ) → isLine k ≡ true → hasText k ≡ true
+line-text k e = rw e
+
+pub line-lies : (s : List ℕ) (h : Node) → rowFits resp2 s h ≡ true → isLine (h .kind) ≡ true → (h .w1 ≤ h .w2) × (h .w2 ≤ length s)
+line-lies s h f k = text-lies s h f (line-text (h .kind) k)

@@ -1,7 +1,7 @@
 -- A row's bytes, kind by kind, and how many they are.
 use mathlib.Core.Path.{_≡_, ap, _∙_}
 use mathlib.Core.List.{List, _∷_, _++_}
-use mathlib.Core.Bool.{Bool, true, false, _||_}
+use mathlib.Core.Bool.{Bool, true, false}
 use Prim.Native.Nat.{ℕ, _+_, _-_, _≤_}
 use Prim.Native.Char.{code}
 use native.Mathlib.Omega.{arith}
@@ -9,26 +9,22 @@ use lib.Dec.{eqb}
 use lib.ListN.{length, length-append, length-take, length-drop, drop}
 use borrow.Author.Tests.{ne-eqb}
 use Rattle.meaning.specs.Choice.{pick}
-use Rattle.meaning.specs.Kinds.{resp2, typeByte, byteIn, SimpleString, SimpleError, Number, BlobString, Array}
+use Rattle.meaning.specs.Kinds.{resp2, typeByte, byteIn, Number, BlobString, Array}
 use Rattle.meaning.specs.Rows.{Node}
 use Rattle.meaning.specs.Text.{codes}
 use Rattle.meaning.specs.Digits.{digitsOf, shown, signedWord}
 use Rattle.meaning.specs.DigitLaws.{shown-most, signed-most}
 use Rattle.meaning.specs.Encode.{rowFits, lineOf, lineFor, countFor, bulkFor, integerFor, integerText, textIn, crlf}
-use Rattle.lines.specs.Fits.{hasText, text-lies}
+use Rattle.lines.specs.Fits.{isLine, hasText, line-text, text-lies}
 
 -- Null's bytes
 abbrev pub nullLine : List ℕ
 nullLine = code "$" ∷ code "-" ∷ code "1" ∷ crlf
 
 module _ (s : List ℕ) (flag : Bool) (h : Node) where
-  pub simple-line : h .kind ≡ SimpleString → lineOf resp2 s flag h ≡ code "+" ∷ (textIn s h ++ crlf)
-  unfolding lineOf typeByte byteIn
-  simple-line k = rw k
-
-  pub error-line : h .kind ≡ SimpleError → lineOf resp2 s flag h ≡ code "-" ∷ (textIn s h ++ crlf)
-  unfolding lineOf typeByte byteIn
-  error-line k = rw k
+  pub text-line : isLine (h .kind) ≡ true → lineOf resp2 s flag h ≡ lineFor resp2 (h .kind) (textIn s h)
+  unfolding lineOf
+  text-line k = rw k
 
   pub integer-line : h .kind ≡ Number → flag ≡ false → lineOf resp2 s flag h ≡ lineFor resp2 Number (integerText (h .w1))
   unfolding lineOf
@@ -47,11 +43,9 @@ module _ (s : List ℕ) (flag : Bool) (h : Node) where
   array-line k = rw k
 
   -- a row of no other kind is written as Null
-  pub null-line : (h .kind ≡ SimpleString → ⊥) → (h .kind ≡ SimpleError → ⊥) → (h .kind ≡ Number → ⊥) → (h .kind ≡ BlobString → ⊥) → (h .kind ≡ Array → ⊥)
-      → lineOf resp2 s flag h ≡ nullLine
+  pub null-line : isLine (h .kind) ≡ false → (h .kind ≡ Number → ⊥) → (h .kind ≡ BlobString → ⊥) → (h .kind ≡ Array → ⊥) → lineOf resp2 s flag h ≡ nullLine
   unfolding lineOf typeByte byteIn codes
-  null-line a b c d e =
-      rw (ne-eqb (h .kind) SimpleString a, ne-eqb (h .kind) SimpleError b, ne-eqb (h .kind) Number c, ne-eqb (h .kind) BlobString d, ne-eqb (h .kind) Array e)
+  null-line t n b a = rw (t, ne-eqb (h .kind) Number n, ne-eqb (h .kind) BlobString b, ne-eqb (h .kind) Array a)
 
 -- ---- lengths
 
@@ -78,11 +72,8 @@ module _ (s : List ℕ) (flag : Bool) (h : Node) where
   array-size k = rw (array-line s flag h k) (line-length Array (shown (digitsOf (h .w3))))
 
   module _ (f : rowFits resp2 s h ≡ true) where
-    pub simple-size : h .kind ≡ SimpleString → length (lineOf resp2 s flag h) ≡ h .w2 - h .w1 + 3
-    simple-size k = rw (simple-line s flag h k) (omega (arith, line-length SimpleString (textIn s h), text-length s h f (ap hasText k)))
-
-    pub error-size : h .kind ≡ SimpleError → length (lineOf resp2 s flag h) ≡ h .w2 - h .w1 + 3
-    error-size k = rw (error-line s flag h k) (omega (arith, line-length SimpleError (textIn s h), text-length s h f (ap hasText k)))
+    pub text-size : isLine (h .kind) ≡ true → length (lineOf resp2 s flag h) ≡ h .w2 - h .w1 + 3
+    text-size k = rw (text-line s flag h k) (omega (arith, line-length (h .kind) (textIn s h), text-length s h f (line-text (h .kind) k)))
 
     pub blob-size : h .kind ≡ BlobString → length (lineOf resp2 s flag h) ≡ length (shown (digitsOf (h .w2 - h .w1))) + (h .w2 - h .w1) + 5
     blob-size k = rw (blob-line s flag h k) (bulk-length BlobString (textIn s h) ∙ rw (text-length s h f (ap hasText k)))
@@ -105,7 +96,7 @@ pub line-most : (s : List ℕ) (flag : Bool) (h : Node) → length (lineOf resp2
 unfolding lineOf codes
 line-most s flag h =
     let text = text-most s h in
-    either-most (eqb (h .kind) SimpleString || eqb (h .kind) SimpleError) _ _ _ (omega (arith, line-length (h .kind) (textIn s h)))
+    either-most (isLine (h .kind)) _ _ _ (omega (arith, line-length (h .kind) (textIn s h)))
     (either-most (eqb (h .kind) Number) _ _ _ (omega (arith, integer-line-most flag (integerText (h .w1)) (signed-most (signedWord (h .w1)))))
     (either-most (eqb (h .kind) BlobString) _ _ _ (omega (arith, bulk-length BlobString (textIn s h), shown-most (length (textIn s h))))
     (either-most (eqb (h .kind) Array) _ _ _ (omega (arith, line-length Array (shown (digitsOf (h .w3))), shown-most (h .w3)))

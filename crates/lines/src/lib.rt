@@ -6,11 +6,11 @@ ghost use mathlib.Core.List.{[], _∷_, _++_};
 ghost use Prim.Native.Nat.{_+_, _-_, _^_, _<_, _≤_};
 ghost use lib.ListN.{length};
 ghost use lib.Seq.{sets};
-ghost use Rattle.meaning.specs.Kinds.{resp2, Number, BlobString};
+ghost use Rattle.meaning.specs.Kinds.{resp2, typeByte, Number, BlobString};
 ghost use Rattle.meaning.specs.Digits.{digitsOf, shown};
 ghost use Rattle.meaning.specs.Encode.{rowFits, lineOf, lineFor, bulkFor, integerText, crlf, sourceLimit};
 ghost use Rattle.rows.specs.Put.{nodeIn};
-ghost use Rattle.lines.specs.Fits.{hasText, liesIn, blankWords};
+ghost use Rattle.lines.specs.Fits.{isLine, hasText, liesIn, blankWords};
 ghost use Rattle.lines.specs.LineLaws.{nullLine};
 ghost use Rattle.lines.specs.Puts.{Puts};
 
@@ -26,13 +26,20 @@ const BLOB_STRING: u64 = kinds::BLOB_STRING as u64;
 
 const ARRAY: u64 = kinds::ARRAY as u64;
 
-fn has_text(kind: u64) -> bool
-    ensures { λ r. ⌜ r ≡ hasText kind ⌝ }
+// Whether a kind is a text on a line of its own.
+fn is_line(kind: u64) -> bool
+    ensures { λ r. ⌜ r ≡ isLine kind ⌝ }
 {
     if kind == SIMPLE_STRING {
         return true;
     }
-    if kind == SIMPLE_ERROR {
+    kind == SIMPLE_ERROR
+}
+
+fn has_text(kind: u64) -> bool
+    ensures { λ r. ⌜ r ≡ hasText kind ⌝ }
+{
+    if is_line(kind) {
         return true;
     }
     kind == BLOB_STRING
@@ -130,10 +137,7 @@ pub fn length(s: &[u8], r: Row, flag: bool) -> u64
     if r.kind == ARRAY {
         return digits::width(r.w3) as u64 + 3;
     }
-    if r.kind == SIMPLE_STRING {
-        return r.w2 - r.w1 + 3;
-    }
-    if r.kind == SIMPLE_ERROR {
+    if is_line(r.kind) {
         return r.w2 - r.w1 + 3;
     }
     5
@@ -192,6 +196,17 @@ fn put_number(out: &mut [u8], at: usize, w: u64) -> usize
     }
     let p = put_byte(out, at, b'-');
     put_digits(out, p, magnitude(w))
+}
+
+// The type byte of a text on a line of its own.
+fn line_byte(kind: u64) -> u8
+    requires { ⌜ isLine kind ≡ true ⌝ }
+    ensures { λ r. ⌜ r ≡ typeByte resp2 kind ⌝ }
+{
+    if kind == SIMPLE_STRING {
+        return b'+';
+    }
+    b'-'
 }
 
 // A type byte and a line.
@@ -275,11 +290,8 @@ pub fn put(out: &mut [u8], at: usize, s: &[u8], r: Row, flag: bool) -> usize
     if r.kind == BLOB_STRING {
         return put_bulk(out, at, &s[from..to]);
     }
-    if r.kind == SIMPLE_STRING {
-        return put_line(out, at, b'+', &s[from..to]);
-    }
-    if r.kind == SIMPLE_ERROR {
-        return put_line(out, at, b'-', &s[from..to]);
+    if is_line(r.kind) {
+        return put_line(out, at, line_byte(r.kind), &s[from..to]);
     }
     put_null(out, at)
 }

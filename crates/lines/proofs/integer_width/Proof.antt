@@ -1,6 +1,6 @@
 -- `lines::integer_width` meets its contract, by the sign.
 use mathlib.Core.Path.{sym, ap, _∙_}
-use Prim.Native.Nat.{ℕ, _^_, _-_}
+use Prim.Native.Nat.{ℕ}
 use native.Mathlib.Omega.{arith}
 use lib.ListN.{length}
 use Rattle.meaning.specs.Digits.{digitsOf, shown}

@@ -1,12 +1,13 @@
 -- `lines::length` meets its contract, kind by kind.
-use mathlib.Core.Path.{sym, ap, _∙_}
-use Prim.Native.Nat.{ℕ, _+_}
+use mathlib.Core.Path.{_≡_, sym, ap, _∙_}
+use mathlib.Core.Bool.{true, false}
+use Prim.Native.Nat.{ℕ, _+_, _≤_}
 use native.Mathlib.Omega.{arith}
 use lib.ListN.{length}
 use Rattle.meaning.specs.Digits.{digitsOf, shown, signedWord}
 use Rattle.meaning.specs.DigitLaws.{shown-most, signed-most}
-use Rattle.lines.specs.Fits.{hasText, text-lies}
-use Rattle.lines.specs.LineLaws.{bulk-integer-size, integer-size, array-size, simple-size, error-size, blob-size, null-line}
+use Rattle.lines.specs.Fits.{isLine, hasText, text-lies, line-lies}
+use Rattle.lines.specs.LineLaws.{bulk-integer-size, integer-size, array-size, text-size, blob-size, null-line}
 use borrow.Author.Needs.{needs}
 use Rattle.lines.proofs.length.Statement.{statement}
 use Rattle.lines.proofs.length.Tie as tie
@@ -61,43 +62,34 @@ add-result-2 c = omega (arith, c .width .ensures, shown-most (c .before .before 
 returns-4 : tie.Need-returns-4
 returns-4 c = ap (λ (m : ℕ). m + 3) (c .width .ensures) ∙ sym (array-size _ _ _ (c .before .if4 .taken))
 
+is-line-requires : tie.Need-is-line-requires
+is-line-requires c κs = search needs
+
+yes : (c : tie.Then5) → isLine (c .before .before .before .before .before .before .before .before .before .args .r .kind) ≡ true
+yes c = sym (c .before .is-line .ensures) ∙ c .if5 .taken
+
+no : (c : tie.Else5) → isLine (c .before .before .before .before .before .before .before .before .before .args .r .kind) ≡ false
+no c = sym (c .before .is-line .ensures) ∙ c .if5 .left
+
+-- its text lies in the source
+ends : (c : tie.Then5) → let r = c .before .before .before .before .before .before .before .before .before .args .r in (r .w1 ≤ r .w2) × (r .w2 ≤ length (c .before .before .before .before .before .before .before .before .before .args .s .now))
+ends c = line-lies _ _ (c .before .before .before .before .before .before .before .before .before .pre .0) (yes c)
+
 sub-result : tie.Need-sub-result
-sub-result c =
-    let s = c .before .before .before .before .before .before .before .before .before .before in
-    omega (arith, text-lies _ _ (s .pre .0) (ap hasText (c .before .if5 .taken)))
+sub-result c = omega (arith, ends (c .before))
 
 add-result-3 : tie.Need-add-result-3
-add-result-3 c =
-    let s = c .before .before .before .before .before .before .before .before .before .before in
-    omega (arith, s .pre .1, text-lies _ _ (s .pre .0) (ap hasText (c .before .if5 .taken)))
+add-result-3 c = omega (arith, c .before .before .before .before .before .before .before .before .before .before .pre .1, ends (c .before))
 
 returns-5 : tie.Need-returns-5
-returns-5 c =
-    let s = c .before .before .before .before .before .before .before .before .before .before in
-    sym (simple-size _ _ _ (s .pre .0) (c .before .if5 .taken))
-
-sub-result-2 : tie.Need-sub-result-2
-sub-result-2 c =
-    let s = c .before .before .before .before .before .before .before .before .before .before .before .before in
-    omega (arith, text-lies _ _ (s .pre .0) (ap hasText (c .before .if6 .taken)))
-
-add-result-4 : tie.Need-add-result-4
-add-result-4 c =
-    let s = c .before .before .before .before .before .before .before .before .before .before .before .before in
-    omega (arith, s .pre .1, text-lies _ _ (s .pre .0) (ap hasText (c .before .if6 .taken)))
+returns-5 c = sym (text-size _ _ _ (c .before .before .before .before .before .before .before .before .before .before .pre .0) (yes (c .before)))
 
 returns-6 : tie.Need-returns-6
 returns-6 c =
-    let s = c .before .before .before .before .before .before .before .before .before .before .before .before in
-    sym (error-size _ _ _ (s .pre .0) (c .before .if6 .taken))
-
-returns-7 : tie.Need-returns-7
-returns-7 c =
-    let e = c .before .before in
-    let a = e .before .before in
+    let a = c .before .before in
     let b = a .before .before in
     let n = b .before .before in
-    sym (ap length (null-line _ _ _ (e .if5 .left) (c .if6 .left) (n .if1 .left) (b .if3 .left) (a .if4 .left)))
+    sym (ap length (null-line _ _ _ (no c) (n .if1 .left) (b .if3 .left) (a .if4 .left)))
 
 pub length-spec : {M : Type 1} → statement M
 length-spec =
@@ -114,10 +106,8 @@ length-spec =
     width-requires
     add-result-2
     returns-4
+    is-line-requires
     sub-result
     add-result-3
     returns-5
-    sub-result-2
-    add-result-4
-    returns-6
-    returns-7)
+    returns-6)

@@ -1,15 +1,16 @@
 -- `lines::put` meets its contract, kind by kind.
-use mathlib.Core.Path.{_≡_, sym, ap}
-use mathlib.Core.List.{List}
-use Prim.Native.Nat.{ℕ, _+_}
+use mathlib.Core.Path.{_≡_, sym, ap, _∙_}
+use mathlib.Core.Bool.{Bool, true, false}
+use mathlib.Core.List.{List, _∷_, _++_}
+use Prim.Native.Nat.{ℕ, _+_, _≤_}
 use native.Mathlib.Omega.{arith}
 use lib.ListN.{length}
 use lib.Seq.{sets}
-use Rattle.meaning.specs.Kinds.{SimpleString, SimpleError, BlobString}
-use Rattle.meaning.specs.Encode.{textIn}
+use Rattle.meaning.specs.Kinds.{resp2, BlobString}
+use Rattle.meaning.specs.Encode.{lineOf, textIn, crlf}
 use Rattle.rows.specs.Put.{nodeIn}
-use Rattle.lines.specs.Fits.{hasText, text-lies}
-use Rattle.lines.specs.LineLaws.{simple-line, error-line, integer-line, bulk-integer-line, blob-line, array-line, null-line, line-length, bulk-length, bulk-integer-size, integer-size, array-size}
+use Rattle.lines.specs.Fits.{isLine, hasText, text-lies, line-lies}
+use Rattle.lines.specs.LineLaws.{nullLine, text-line, integer-line, bulk-integer-line, blob-line, array-line, null-line, line-length, bulk-length, bulk-integer-size, integer-size, array-size}
 use Rattle.lines.specs.Puts.{Puts, puts-as}
 use borrow.Author.Needs.{needs}
 use Rattle.lines.proofs.put.Statement.{statement}
@@ -92,26 +93,36 @@ returns-4 c =
     let p = c .before .before in
     told (blob-line _ _ _ (p .before .before .before .if4 .taken)) (p .put-bulk .ensures)
 
+is-line-requires : tie.Need-is-line-requires
+is-line-requires c κs = search needs
+
+yes : (c : tie.Then5) → isLine (c .before .before .before .before .before .before .before .before .before .before .args .r .kind) ≡ true
+yes c = sym (c .before .is-line .ensures) ∙ c .if5 .taken
+
+no : (c : tie.Else5) → isLine (c .before .before .before .before .before .before .before .before .before .before .args .r .kind) ≡ false
+no c = sym (c .before .is-line .ensures) ∙ c .if5 .left
+
+line-byte-requires : tie.Need-line-byte-requires
+line-byte-requires c κs = yes (c .before)
+
+-- its text lies in the source
+ends : (c : tie.Then5) → let r = c .before .before .before .before .before .before .before .before .before .before .args .r in (r .w1 ≤ r .w2) × (r .w2 ≤ length (c .before .before .before .before .before .before .before .before .before .before .args .s .now))
+ends c = line-lies _ _ (c .before .before .before .before .before .before .before .before .before .before .pre .0 .0) (yes c)
+
 sub-put-line : tie.Need-sub-put-line
-sub-put-line c =
-    let k = c .before in
-    omega (arith, text-lies _ _ (k .before .before .before .before .before .before .before .before .before .before .pre .0 .0) (ap hasText (k .if5 .taken)))
+sub-put-line c = omega (arith, ends (c .before .before))
 
 part-put-line-start : tie.Need-part-put-line-start
-part-put-line-start c =
-    let k = c .before in
-    omega (arith, text-lies _ _ (k .before .before .before .before .before .before .before .before .before .before .pre .0 .0) (ap hasText (k .if5 .taken)))
+part-put-line-start c = omega (arith, ends (c .before .before))
 
 part-put-line-end : tie.Need-part-put-line-end
-part-put-line-end c =
-    let k = c .before in
-    omega (arith, text-lies _ _ (k .before .before .before .before .before .before .before .before .before .before .pre .0 .0) (ap hasText (k .if5 .taken)))
+part-put-line-end c = omega (arith, ends (c .before .before))
 
 put-line-requires : tie.Need-put-line-requires
 put-line-requires c κs =
-    let k = c .before .before in
+    let k = c .before .before .before in
     let s = k .before .before .before .before .before .before .before .before .before .before in
-    omega (arith, s .pre .1, ap length (simple-line (s .args .s .now) (s .args .flag) (nodeIn (s .args .r)) (k .if5 .taken)), line-length SimpleString (textIn (s .args .s .now) (nodeIn (s .args .r))))
+    omega (arith, s .pre .1, ap length (text-line (s .args .s .now) (s .args .flag) (nodeIn (s .args .r)) (yes k)), line-length (s .args .r .kind) (textIn (s .args .s .now) (nodeIn (s .args .r))))
 
 same-length-5 : tie.Need-same-length-5
 same-length-5 c = search needs
@@ -119,28 +130,20 @@ same-length-5 c = search needs
 returns-5 : tie.Need-returns-5
 returns-5 c =
     let p = c .before .before in
-    told (simple-line _ _ _ (p .before .before .before .if5 .taken)) (p .put-line .ensures)
+    let b = p .before .before in
+    let k = b .before .before in
+    let s = k .before .before .before .before .before .before .before .before .before .before in
+    told (text-line _ _ _ (yes k)) (puts-as (ap (λ (t : ℕ). t ∷ (textIn (s .args .s .now) (nodeIn (s .args .r)) ++ crlf)) (b .line-byte .ensures)) (p .put-line .ensures))
 
-sub-put-line-2 : tie.Need-sub-put-line-2
-sub-put-line-2 c =
-    let k = c .before in
-    omega (arith, text-lies _ _ (k .before .before .before .before .before .before .before .before .before .before .before .before .pre .0 .0) (ap hasText (k .if6 .taken)))
+-- no other kind is left
+null : (s : List ℕ) (flag : Bool) (e : tie.Else5) → lineOf resp2 s flag (nodeIn (e .before .before .before .before .before .before .before .before .before .before .args .r)) ≡ nullLine
+null s flag e = null-line s flag _ (no e) (e .before .before .before .before .before .before .if1 .left) (e .before .before .if4 .left) (e .before .before .before .before .if3 .left)
 
-part-put-line-start-2 : tie.Need-part-put-line-start-2
-part-put-line-start-2 c =
-    let k = c .before in
-    omega (arith, text-lies _ _ (k .before .before .before .before .before .before .before .before .before .before .before .before .pre .0 .0) (ap hasText (k .if6 .taken)))
-
-part-put-line-end-2 : tie.Need-part-put-line-end-2
-part-put-line-end-2 c =
-    let k = c .before in
-    omega (arith, text-lies _ _ (k .before .before .before .before .before .before .before .before .before .before .before .before .pre .0 .0) (ap hasText (k .if6 .taken)))
-
-put-line-requires-2 : tie.Need-put-line-requires-2
-put-line-requires-2 c κs =
-    let k = c .before .before in
-    let s = k .before .before .before .before .before .before .before .before .before .before .before .before in
-    omega (arith, s .pre .1, ap length (error-line (s .args .s .now) (s .args .flag) (nodeIn (s .args .r)) (k .if6 .taken)), line-length SimpleError (textIn (s .args .s .now) (nodeIn (s .args .r))))
+put-null-requires : tie.Need-put-null-requires
+put-null-requires c κs =
+    let e = c .before in
+    let s = e .before .before .before .before .before .before .before .before .before .before in
+    omega (arith, s .pre .1, ap length (null (s .args .s .now) (s .args .flag) e))
 
 same-length-6 : tie.Need-same-length-6
 same-length-6 c = search needs
@@ -148,22 +151,7 @@ same-length-6 c = search needs
 returns-6 : tie.Need-returns-6
 returns-6 c =
     let p = c .before .before in
-    told (error-line _ _ _ (p .before .before .before .if6 .taken)) (p .put-line2 .ensures)
-
-put-null-requires : tie.Need-put-null-requires
-put-null-requires c κs =
-    let e = c .before in
-    let s = e .before .before .before .before .before .before .before .before .before .before .before .before in
-    omega (arith, s .pre .1, ap length (null-line (s .args .s .now) (s .args .flag) (nodeIn (s .args .r)) (e .before .before .if5 .left) (e .if6 .left) (e .before .before .before .before .before .before .before .before .if1 .left) (e .before .before .before .before .if4 .left) (e .before .before .before .before .before .before .if3 .left)))
-
-same-length-7 : tie.Need-same-length-7
-same-length-7 c = search needs
-
-returns-7 : tie.Need-returns-7
-returns-7 c =
-    let p = c .before .before in
-    let e = p .before .before in
-    told (null-line _ _ _ (e .before .before .if5 .left) (e .if6 .left) (e .before .before .before .before .before .before .before .before .if1 .left) (e .before .before .before .before .if4 .left) (e .before .before .before .before .before .before .if3 .left)) (p .put-null .ensures)
+    told (null _ _ (p .before .before)) (p .put-null .ensures)
 
 pub put-spec : {M : Type 1} → statement M
 put-spec =
@@ -184,18 +172,14 @@ put-spec =
     put-bulk-requires
     same-length-4
     returns-4
+    is-line-requires
+    line-byte-requires
     sub-put-line
     part-put-line-start
     part-put-line-end
     put-line-requires
     same-length-5
     returns-5
-    sub-put-line-2
-    part-put-line-start-2
-    part-put-line-end-2
-    put-line-requires-2
-    same-length-6
-    returns-6
     put-null-requires
-    same-length-7
-    returns-7)
+    same-length-6
+    returns-6)

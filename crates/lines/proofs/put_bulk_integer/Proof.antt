@@ -1,6 +1,6 @@
 -- `lines::put_bulk_integer` meets its contract.
-use mathlib.Core.Path.{_≡_, sym, ap, _∙_}
-use mathlib.Core.List.{List, _∷_, _++_}
+use mathlib.Core.Path.{_≡_, ap}
+use mathlib.Core.List.{_∷_, _++_}
 use Prim.Native.Nat.{ℕ}
 use Prim.Native.Char.{code}
 use native.Mathlib.Omega.{arith}
@@ -9,7 +9,7 @@ use Rattle.meaning.specs.Kinds.{typeByte, byteIn, BlobString}
 use Rattle.meaning.specs.Digits.{digitsOf, shown}
 use Rattle.meaning.specs.Encode.{integerText, crlf}
 use Rattle.lines.specs.LineLaws.{line-length}
-use Rattle.lines.specs.Puts.{Puts, puts-more, puts-as}
+use Rattle.lines.specs.Puts.{puts-more, puts-as}
 use borrow.Author.Needs.{needs}
 use Rattle.lines.proofs.put_bulk_integer.Statement.{statement}
 use Rattle.lines.proofs.put_bulk_integer.Tie as tie

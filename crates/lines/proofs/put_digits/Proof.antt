@@ -1,5 +1,5 @@
 -- `lines::put_digits` meets its contract: after k turns the last k digits stand at the end.
-use mathlib.Core.Path.{_≡_, refl, sym, ap, ap₂, _∙_}
+use mathlib.Core.Path.{_≡_, sym, ap, ap₂, _∙_}
 use mathlib.Core.List.{List, [], _∷_}
 use Prim.Native.Nat.{ℕ, suc, _+_, _-_, _/_, _%_, _^_, _≤_}
 use native.Mathlib.Nat.{div-one, div-div-eq-div-mul, pow-suc}

@@ -1,13 +1,12 @@
 -- `lines::put_number` meets its contract, by the sign.
-use mathlib.Core.Path.{_≡_, sym, ap, _∙_}
-use mathlib.Core.List.{List, _∷_}
+use mathlib.Core.Path.{sym, ap, _∙_}
+use mathlib.Core.List.{_∷_}
 use Prim.Native.Nat.{ℕ}
 use Prim.Native.Char.{code}
 use native.Mathlib.Omega.{arith}
 use lib.ListN.{length}
 use Rattle.meaning.specs.Digits.{digitsOf, shown}
 use Rattle.meaning.specs.DigitLaws.{shown-word, shown-minus-word}
-use Rattle.meaning.specs.Encode.{integerText}
 use Rattle.lines.specs.Puts.{puts-more, puts-as}
 use borrow.Author.Needs.{needs}
 use Rattle.lines.proofs.put_number.Statement.{statement}
