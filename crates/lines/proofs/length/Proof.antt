@@ -1,7 +1,7 @@
 -- `lines::length` meets its contract, kind by kind.
 use mathlib.Core.Path.{_≡_, sym, ap, _∙_}
 use mathlib.Core.Bool.{true, false}
-use Prim.Native.Nat.{ℕ, _+_, _≤_}
+use Prim.Native.Nat.{ℕ, _+_}
 use native.Mathlib.Omega.{arith}
 use lib.ListN.{length}
 use Rattle.meaning.specs.Digits.{digitsOf, shown, signedWord}
@@ -65,24 +65,30 @@ returns-4 c = ap (λ (m : ℕ). m + 3) (c .width .ensures) ∙ sym (array-size _
 is-line-requires : tie.Need-is-line-requires
 is-line-requires c κs = search needs
 
-yes : (c : tie.Then5) → isLine (c .before .before .before .before .before .before .before .before .before .args .r .kind) ≡ true
+-- where the call began
+abbrev start : tie.After-is-line → tie.Start
+start c = c .before .before .before .before .before .before .before .before
+
+yes : (c : tie.Then5) → isLine (start (c .before) .args .r .kind) ≡ true
 yes c = sym (c .before .is-line .ensures) ∙ c .if5 .taken
 
-no : (c : tie.Else5) → isLine (c .before .before .before .before .before .before .before .before .before .args .r .kind) ≡ false
+no : (c : tie.Else5) → isLine (start (c .before) .args .r .kind) ≡ false
 no c = sym (c .before .is-line .ensures) ∙ c .if5 .left
 
--- its text lies in the source
-ends : (c : tie.Then5) → let r = c .before .before .before .before .before .before .before .before .before .args .r in (r .w1 ≤ r .w2) × (r .w2 ≤ length (c .before .before .before .before .before .before .before .before .before .args .s .now))
-ends c = line-lies _ _ (c .before .before .before .before .before .before .before .before .before .pre .0) (yes c)
-
 sub-result : tie.Need-sub-result
-sub-result c = omega (arith, ends (c .before))
+sub-result c =
+    let k = c .before in
+    omega (arith, line-lies _ _ (start (k .before) .pre .0) (yes k))
 
 add-result-3 : tie.Need-add-result-3
-add-result-3 c = omega (arith, c .before .before .before .before .before .before .before .before .before .before .pre .1, ends (c .before))
+add-result-3 c =
+    let k = c .before in
+    omega (arith, start (k .before) .pre .1, line-lies _ _ (start (k .before) .pre .0) (yes k))
 
 returns-5 : tie.Need-returns-5
-returns-5 c = sym (text-size _ _ _ (c .before .before .before .before .before .before .before .before .before .before .pre .0) (yes (c .before)))
+returns-5 c =
+    let k = c .before in
+    sym (text-size _ _ _ (start (k .before) .pre .0) (yes k))
 
 returns-6 : tie.Need-returns-6
 returns-6 c =

@@ -1,6 +1,6 @@
 -- `lines::put` meets its contract, kind by kind.
 use mathlib.Core.Path.{_≡_, sym, ap, _∙_}
-use mathlib.Core.Bool.{Bool, true, false}
+use mathlib.Core.Bool.{true, false}
 use mathlib.Core.List.{List, _∷_, _++_}
 use Prim.Native.Nat.{ℕ, _+_, _≤_}
 use native.Mathlib.Omega.{arith}
@@ -64,26 +64,32 @@ returns-3 c =
     let p = c .before .before in
     told (array-line _ _ _ (p .before .before .if3 .taken)) (p .put-count .ensures)
 
+-- where the call began, of a row that is no number and no array
+abbrev start : tie.After-struct-known3 → tie.Start
+start c = c .before .before .before .before .before .before .before
+
+-- the ends of its text lie in the source
+abbrev Ends : tie.Start → Type 0
+Ends s = (s .args .r .w1 ≤ s .args .r .w2) × (s .args .r .w2 ≤ length (s .args .s .now))
+
+blob-ends : (c : tie.Then4) → Ends (start (c .before))
+blob-ends c = text-lies _ _ (start (c .before) .pre .0 .0) (ap hasText (c .if4 .taken))
+
 sub-put-bulk : tie.Need-sub-put-bulk
-sub-put-bulk c =
-    let k = c .before in
-    omega (arith, text-lies _ _ (k .before .before .before .before .before .before .before .before .pre .0 .0) (ap hasText (k .if4 .taken)))
+sub-put-bulk c = omega (arith, blob-ends (c .before))
 
 part-put-bulk-start : tie.Need-part-put-bulk-start
-part-put-bulk-start c =
-    let k = c .before in
-    omega (arith, text-lies _ _ (k .before .before .before .before .before .before .before .before .pre .0 .0) (ap hasText (k .if4 .taken)))
+part-put-bulk-start c = omega (arith, blob-ends (c .before))
 
 part-put-bulk-end : tie.Need-part-put-bulk-end
-part-put-bulk-end c =
-    let k = c .before in
-    omega (arith, text-lies _ _ (k .before .before .before .before .before .before .before .before .pre .0 .0) (ap hasText (k .if4 .taken)))
+part-put-bulk-end c = omega (arith, blob-ends (c .before))
 
 put-bulk-requires : tie.Need-put-bulk-requires
 put-bulk-requires c κs =
     let k = c .before .before in
-    let s = k .before .before .before .before .before .before .before .before in
-    omega (arith, s .pre .1, ap length (blob-line (s .args .s .now) (s .args .flag) (nodeIn (s .args .r)) (k .if4 .taken)), bulk-length BlobString (textIn (s .args .s .now) (nodeIn (s .args .r))))
+    let s = start (k .before) in
+    let h = nodeIn (s .args .r) in
+    omega (arith, s .pre .1, ap length (blob-line (s .args .s .now) (s .args .flag) h (k .if4 .taken)), bulk-length BlobString (textIn (s .args .s .now) h))
 
 same-length-4 : tie.Need-same-length-4
 same-length-4 c = search needs
@@ -96,33 +102,33 @@ returns-4 c =
 is-line-requires : tie.Need-is-line-requires
 is-line-requires c κs = search needs
 
-yes : (c : tie.Then5) → isLine (c .before .before .before .before .before .before .before .before .before .before .args .r .kind) ≡ true
+yes : (c : tie.Then5) → isLine (start (c .before .before .before) .args .r .kind) ≡ true
 yes c = sym (c .before .is-line .ensures) ∙ c .if5 .taken
 
-no : (c : tie.Else5) → isLine (c .before .before .before .before .before .before .before .before .before .before .args .r .kind) ≡ false
+no : (c : tie.Else5) → isLine (start (c .before .before .before) .args .r .kind) ≡ false
 no c = sym (c .before .is-line .ensures) ∙ c .if5 .left
 
 line-byte-requires : tie.Need-line-byte-requires
 line-byte-requires c κs = yes (c .before)
 
--- its text lies in the source
-ends : (c : tie.Then5) → let r = c .before .before .before .before .before .before .before .before .before .before .args .r in (r .w1 ≤ r .w2) × (r .w2 ≤ length (c .before .before .before .before .before .before .before .before .before .before .args .s .now))
-ends c = line-lies _ _ (c .before .before .before .before .before .before .before .before .before .before .pre .0 .0) (yes c)
+line-ends : (c : tie.Then5) → Ends (start (c .before .before .before))
+line-ends c = line-lies _ _ (start (c .before .before .before) .pre .0 .0) (yes c)
 
 sub-put-line : tie.Need-sub-put-line
-sub-put-line c = omega (arith, ends (c .before .before))
+sub-put-line c = omega (arith, line-ends (c .before .before))
 
 part-put-line-start : tie.Need-part-put-line-start
-part-put-line-start c = omega (arith, ends (c .before .before))
+part-put-line-start c = omega (arith, line-ends (c .before .before))
 
 part-put-line-end : tie.Need-part-put-line-end
-part-put-line-end c = omega (arith, ends (c .before .before))
+part-put-line-end c = omega (arith, line-ends (c .before .before))
 
 put-line-requires : tie.Need-put-line-requires
 put-line-requires c κs =
     let k = c .before .before .before in
-    let s = k .before .before .before .before .before .before .before .before .before .before in
-    omega (arith, s .pre .1, ap length (text-line (s .args .s .now) (s .args .flag) (nodeIn (s .args .r)) (yes k)), line-length (s .args .r .kind) (textIn (s .args .s .now) (nodeIn (s .args .r))))
+    let s = start (k .before .before .before) in
+    let h = nodeIn (s .args .r) in
+    omega (arith, s .pre .1, ap length (text-line (s .args .s .now) (s .args .flag) h (yes k)), line-length (h .kind) (textIn (s .args .s .now) h))
 
 same-length-5 : tie.Need-same-length-5
 same-length-5 c = search needs
@@ -132,18 +138,22 @@ returns-5 c =
     let p = c .before .before in
     let b = p .before .before in
     let k = b .before .before in
-    let s = k .before .before .before .before .before .before .before .before .before .before in
-    told (text-line _ _ _ (yes k)) (puts-as (ap (λ (t : ℕ). t ∷ (textIn (s .args .s .now) (nodeIn (s .args .r)) ++ crlf)) (b .line-byte .ensures)) (p .put-line .ensures))
+    let s = start (k .before .before .before) in
+    let text = textIn (s .args .s .now) (nodeIn (s .args .r)) in
+    told (text-line _ _ _ (yes k)) (puts-as (ap (λ (t : ℕ). t ∷ (text ++ crlf)) (b .line-byte .ensures)) (p .put-line .ensures))
 
 -- no other kind is left
-null : (s : List ℕ) (flag : Bool) (e : tie.Else5) → lineOf resp2 s flag (nodeIn (e .before .before .before .before .before .before .before .before .before .before .args .r)) ≡ nullLine
-null s flag e = null-line s flag _ (no e) (e .before .before .before .before .before .before .if1 .left) (e .before .before .if4 .left) (e .before .before .before .before .if3 .left)
+null : (c : tie.Else5) → let s = start (c .before .before .before) in lineOf resp2 (s .args .s .now) (s .args .flag) (nodeIn (s .args .r)) ≡ nullLine
+null c =
+    let b = c .before .before in
+    let a = b .before .before in
+    let n = a .before .before in
+    null-line _ _ _ (no c) (n .if1 .left) (b .if4 .left) (a .if3 .left)
 
 put-null-requires : tie.Need-put-null-requires
 put-null-requires c κs =
     let e = c .before in
-    let s = e .before .before .before .before .before .before .before .before .before .before in
-    omega (arith, s .pre .1, ap length (null (s .args .s .now) (s .args .flag) e))
+    omega (arith, start (e .before .before .before) .pre .1, ap length (null e))
 
 same-length-6 : tie.Need-same-length-6
 same-length-6 c = search needs
@@ -151,7 +161,7 @@ same-length-6 c = search needs
 returns-6 : tie.Need-returns-6
 returns-6 c =
     let p = c .before .before in
-    told (null _ _ (p .before .before)) (p .put-null .ensures)
+    told (null (p .before .before)) (p .put-null .ensures)
 
 pub put-spec : {M : Type 1} → statement M
 put-spec =
