@@ -23,3 +23,5 @@ pub mod RunLaws
 pub mod KeyLaws
 pub mod DecodeLaws
 pub mod DigitLaws
+pub mod TreeLaws
+pub mod EncodeLaws
