@@ -32,6 +32,9 @@ pub record Took (ws : List ℕ) (f : Forest) (r : List ℕ) : Type 0 where
 abbrev pub Whole : (List ℕ → Reading) → Type 0
 Whole p = (ws : List ℕ) → OfGot (Took ws) (p ws)
 
+pub took : (p : List ℕ → Reading) → Whole p → (ws : List ℕ) {f : Forest} {r : List ℕ} → p ws ≡ got f r → Took ws f r
+took p whole ws e = subst (OfGot (Took ws)) e (whole ws)
+
 took-next : {ws r q : List ℕ} {f g : Forest} → Took ws f r → Took r g q → Took ws (join f g) q
 took-next {ws} {r} {q} {f} {g} t u = record {
   rest = u .rest ∙ rw (t .rest, drop-drop (rowWidth * span g) (rowWidth * span f) ws) (ap (λ (n : ℕ). drop n ws) e);
@@ -112,8 +115,7 @@ module _ {p : List ℕ → Reading} {t : List ℕ} {n first row i : ℕ} {read :
   -- one frame more
   pub loop-next : Whole p → i < n → {f : Forest} {r : List ℕ} → p (drop (rowWidth * row) t) ≡ got f r → Loop p t n first (join read f) (row + span f) (i + 1)
   loop-next whole h {f} {r} e =
-      let w : Took (drop (rowWidth * row) t) f r = rw e at (whole (drop (rowWidth * row) t)) in
-      let x = took-row t row (l .there) w in
+      let x = took-row t row (l .there) (took p whole (drop (rowWidth * row) t) e) in
       record {
         turns = omega arith;
         count = omega (arith, l .count, span-join read f);

@@ -1,0 +1,2 @@
+-- What the parts of the encoder promise.
+pub mod Reads
