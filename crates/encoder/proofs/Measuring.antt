@@ -1,7 +1,7 @@
 -- What is measured of frames: of one from its row and those beneath it, and of n of them, one after another.
 use mathlib.Core.Path.{_≡_, refl, sym, ap, subst, _∙_}
 use mathlib.Core.List.{List}
-use mathlib.Core.Bool.{Bool, true, false, not}
+use mathlib.Core.Bool.{Bool, true}
 use Prim.Native.Nat.{ℕ, _+_, _-_, _*_, _≤_, _<_}
 use native.Mathlib.Omega.{arith}
 use lib.ListN.{length, drop}
@@ -14,7 +14,7 @@ use Rattle.meaning.specs.EncodeLaws.{lineMost, length-encoded-join, length-enco
 use Rattle.rows.specs.declared.Row.{Row}
 use Rattle.rows.specs.Put.{rowAt, nodeIn}
 use Rattle.encoder.specs.Reads.{Lent, measuredOf}
-use Rattle.encoder.proofs.Steps.{below, row-unfit, below-unfit, span-unfit, frame-got}
+use Rattle.encoder.proofs.Steps.{Stands, below, row-unfit, below-unfit, span-unfit, frame-got}
 use Rattle.encoder.specs.declared.measure.Measured.{Measured}
 use Rattle.encoder.specs.declared.measure.Measured.the-variants.{To, Unfit}
 
@@ -35,68 +35,51 @@ module _ (s : List ℕ) (flag : Bool) (row : ℕ) where
   unseen unfit e = refl
   unseen (got f r) e = let z : _≡_ {A = ℕ} 0 1 = cc in absurd (omega arith)
 
+-- a reading that is none
+pub none-said : (s : List ℕ) (flag : Bool) (row : ℕ) {o : Reading} → o ≡ unfit → Unfit ≡ measuredOf s flag row o
+none-said s flag row e = rw e
+
 same-to : {a b n m : ℕ} → a ≡ b → n ≡ m → To a n ≡ To b m
 same-to e q = cc
 
 -- ---- a frame, by its row and those beneath it
 
-not-true : (b : Bool) → not b ≡ true → b ≡ false
-not-true true e = sym e
-not-true false e = refl
+-- the row r fits, and so many frames are to stand beneath it
+pub record Fits (s t : List ℕ) (d row : ℕ) (r : Row) (n : ℕ) : Type 0 where
+  pub stands : Stands s t d row r
+  pub fit : rowFits resp2 s (nodeIn r) ≡ true
+  pub count : n ≡ childrenOf (nodeIn r)
 
-not-false : (b : Bool) → not b ≡ false → b ≡ true
-not-false true e = refl
-not-false false e = sym e
+module _ {s t : List ℕ} {d row : ℕ} {r : Row} {n : ℕ} (h : Fits s t d row r n) where
+  counted : framesIn n (rowsRead resp2 s (d - 1)) (drop (rowWidth * (row + 1)) t) ≡ below (h .stands)
+  counted = rw (h .count)
 
-module _ (s t : List ℕ) (flag : Bool) (d row : ℕ) where
-  abbrev Says : Measured → Type 0
-  Says m = m ≡ measuredOf s flag row (rowsRead resp2 s d (drop (rowWidth * row) t))
+  pub unfit-below : (flag : Bool) → Unfit ≡ measuredOf s flag (row + 1) (framesIn n (rowsRead resp2 s (d - 1)) (drop (rowWidth * (row + 1)) t))
+      → rowsRead resp2 s d (drop (rowWidth * row) t) ≡ unfit
+  unfit-below flag u = below-unfit (h .stands) (h .fit) (sym counted ∙ unseen s flag (row + 1) (framesIn n (rowsRead resp2 s (d - 1)) (drop (rowWidth * (row + 1)) t)) u)
 
-  pub says-unfit : rowsRead resp2 s d (drop (rowWidth * row) t) ≡ unfit → Says Unfit
-  says-unfit e = rw e
+  module _ {flag : Bool} {next bytes : ℕ} (x : Seen s flag (row + 1) (framesIn n (rowsRead resp2 s (d - 1)) (drop (rowWidth * (row + 1)) t)) next bytes) where
+    -- the rows beneath are there
+    pub below-there : rowWidth * next ≤ length t
+    below-there =
+        let p = rowsRead resp2 s (d - 1) in
+        let w = took (framesIn n p) (frames-whole p (frame-whole (rowFits resp2 s) childrenOf (d - 1)) n) (drop (rowWidth * (row + 1)) t) (x .reads) in
+        omega (arith, took-row t (row + 1) (omega (arith, h .stands .there)) w .1, x .to)
 
-  module _ (some : d ≡ 0 → ⊥) (there : rowWidth * row + rowWidth ≤ length t) (r : Row) (is : r ≡ rowAt t row) where
-    pub unfit-row : {b : Bool} → b ≡ rowFits resp2 s (nodeIn r) → not b ≡ true → Says Unfit
-    unfit-row {b} f e = says-unfit (row-unfit s t d row some there r is (sym f ∙ not-true b e))
+    pub unfit-span : (r .span ≡ next - row → ⊥) → rowsRead resp2 s d (drop (rowWidth * row) t) ≡ unfit
+    unfit-span e = span-unfit (h .stands) (h .fit) (sym counted ∙ x .reads) (λ q. e (omega (arith, x .to)))
 
-    module _ {b : Bool} {n : ℕ} (f : b ≡ rowFits resp2 s (nodeIn r)) (e : not b ≡ false) (beneath : n ≡ childrenOf (nodeIn r)) where
-      pub fits-row : rowFits resp2 s (nodeIn r) ≡ true
-      fits-row = sym f ∙ not-false b e
+    module _ {line : ℕ} (l : line ≡ length (lineOf resp2 s flag (nodeIn r))) where
+      pub frame-most : length s ≤ sourceLimit → length t ≤ rowWidth * mostRows → line + bytes ≤ (sourceLimit + lineMost) * mostRows
+      frame-most a b = omega (arith, l, line-most resp2 s flag (nodeIn r), x .sum, encoded-most resp2 s flag a (x .frames), x .to, below-there)
 
-      abbrev Beneath : Measured → Type 0
-      Beneath m = m ≡ measuredOf s flag (row + 1) (framesIn n (rowsRead resp2 s (d - 1)) (drop (rowWidth * (row + 1)) t))
-
-      pub unfit-below : Beneath Unfit → Says Unfit
-      unfit-below u = says-unfit (below-unfit s t d row some there r is fits-row (unseen s flag (row + 1) (below s t d row some there r is) (u ∙ rw beneath)))
-
-      module _ {next bytes : ℕ} (u : Beneath (To next bytes)) where
-        seen-below : Seen s flag (row + 1) (below s t d row some there r is) next bytes
-        seen-below = seen s flag (row + 1) (below s t d row some there r is) (u ∙ rw beneath)
-
-        -- the frames beneath the row stand behind it, in rows that are there
-        pub below-within : rowWidth * next ≤ length t
-        below-within =
-            let w = took (framesIn (childrenOf (nodeIn r)) (rowsRead resp2 s (d - 1))) (frames-whole (rowsRead resp2 s (d - 1)) (frame-whole (rowFits resp2 s) childrenOf (d - 1)) (childrenOf (nodeIn r))) (drop (rowWidth * (row + 1)) t) (seen-below .reads) in
-            omega (arith, took-row t (row + 1) (omega arith) w .1, seen-below .to)
-
-        pub row-before : row < next
-        row-before = omega (arith, seen-below .to)
-
-        pub unfit-span : (r .span ≡ next - row → ⊥) → Says Unfit
-        unfit-span h = says-unfit (span-unfit s t d row some there r is fits-row (seen-below .reads) (λ q. h (omega (arith, seen-below .to))))
-
-        module _ (h : r .span ≡ next - row) {line : ℕ} (l : line ≡ length (lineOf resp2 s flag (nodeIn r))) where
-          pub frame-most : length s ≤ sourceLimit → length t ≤ rowWidth * mostRows → line + bytes ≤ (sourceLimit + lineMost) * mostRows
-          frame-most a b =
-              omega (arith, l, line-most resp2 s flag (nodeIn r), seen-below .sum, encoded-most resp2 s flag a (seen-below .frames), seen-below .to, below-within)
-
-          pub frame-says : Says (To next (line + bytes))
-          unfolding span
-          frame-says =
-              let f = seen-below .frames in
-              let a : next ≡ row + span (item (nodeIn r) f end) = omega (arith, seen-below .to) in
-              let k : line + bytes ≡ length (encoded resp2 s flag (item (nodeIn r) f end)) = omega (arith, l, seen-below .sum, length-encoded-item resp2 s flag (nodeIn r) f) in
-              same-to a k ∙ sym (ap (measuredOf s flag row) (frame-got s t d row some there r is fits-row (seen-below .reads) (omega (arith, seen-below .to))))
+      pub frame-said : r .span ≡ next - row → To next (line + bytes) ≡ measuredOf s flag row (rowsRead resp2 s d (drop (rowWidth * row) t))
+      unfolding span
+      frame-said e =
+          let f = item (nodeIn r) (x .frames) end in
+          let a : next ≡ row + span f = omega (arith, x .to) in
+          let k : line + bytes ≡ length (encoded resp2 s flag f) = omega (arith, l, x .sum, length-encoded-item resp2 s flag (nodeIn r) (x .frames)) in
+          same-to a k ∙ sym (ap (measuredOf s flag row) (frame-got (h .stands) (h .fit) (sym counted ∙ x .reads) (omega (arith, x .to))))
 
 -- ---- n frames, one after another
 

@@ -22,26 +22,33 @@ module _ (s t : List ℕ) (d row : ℕ) where
   pub no-row : length t < rowWidth * row + rowWidth → rowsRead resp2 s d (drop (rowWidth * row) t) ≡ unfit
   no-row h = row-none (rowFits resp2 s) childrenOf d t row h
 
-  module _ (some : d ≡ 0 → ⊥) (there : rowWidth * row + rowWidth ≤ length t) (r : Row) (is : r ≡ rowAt t row) where
-    -- the frames beneath the row
-    abbrev pub below : Reading
-    below = framesIn (childrenOf (nodeIn r)) (rowsRead resp2 s (d - 1)) (drop (rowWidth * (row + 1)) t)
+-- the row r stands there, and there is depth for it
+pub record Stands (s t : List ℕ) (d row : ℕ) (r : Row) : Type 0 where
+  pub some : d ≡ 0 → ⊥
+  pub there : rowWidth * row + rowWidth ≤ length t
+  pub is : r ≡ rowAt t row
 
-    by-row : rowsRead resp2 s d (drop (rowWidth * row) t) ≡ pick (rowFits resp2 s (nodeIn r)) (itemIn (nodeIn r) (r .span) below) unfit
-    by-row =
-        let e : d ≡ suc (d - 1) = omega arith in
-        ap (λ (k : ℕ). rowsRead resp2 s k (drop (rowWidth * row) t)) e ∙ row-there (rowFits resp2 s) childrenOf (d - 1) t row there
-        ∙ ap (λ (q : Row). pick (rowFits resp2 s (nodeIn q)) (itemIn (nodeIn q) (q .span) (framesIn (childrenOf (nodeIn q)) (rowsRead resp2 s (d - 1)) (drop (rowWidth * (row + 1)) t))) unfit) (sym is)
+module _ {s t : List ℕ} {d row : ℕ} {r : Row} (h : Stands s t d row r) where
+  -- the frames beneath it
+  abbrev pub below : Reading
+  below = framesIn (childrenOf (nodeIn r)) (rowsRead resp2 s (d - 1)) (drop (rowWidth * (row + 1)) t)
 
-    pub row-unfit : rowFits resp2 s (nodeIn r) ≡ false → rowsRead resp2 s d (drop (rowWidth * row) t) ≡ unfit
-    row-unfit e = by-row ∙ rw e
+  by-row : rowsRead resp2 s d (drop (rowWidth * row) t) ≡ pick (rowFits resp2 s (nodeIn r)) (itemIn (nodeIn r) (r .span) below) unfit
+  by-row =
+      let some = h .some in
+      let e : d ≡ suc (d - 1) = omega arith in
+      ap (λ (k : ℕ). rowsRead resp2 s k (drop (rowWidth * row) t)) e ∙ row-there (rowFits resp2 s) childrenOf (d - 1) t row (h .there)
+      ∙ ap (λ (q : Row). pick (rowFits resp2 s (nodeIn q)) (itemIn (nodeIn q) (q .span) (framesIn (childrenOf (nodeIn q)) (rowsRead resp2 s (d - 1)) (drop (rowWidth * (row + 1)) t))) unfit) (sym (h .is))
 
-    module _ (fit : rowFits resp2 s (nodeIn r) ≡ true) where
-      pub below-unfit : below ≡ unfit → rowsRead resp2 s d (drop (rowWidth * row) t) ≡ unfit
-      below-unfit e = by-row ∙ rw (fit, e)
+  pub row-unfit : rowFits resp2 s (nodeIn r) ≡ false → rowsRead resp2 s d (drop (rowWidth * row) t) ≡ unfit
+  row-unfit e = by-row ∙ rw e
 
-      pub span-unfit : {f : Forest} {q : List ℕ} → below ≡ got f q → (r .span ≡ span f + 1 → ⊥) → rowsRead resp2 s d (drop (rowWidth * row) t) ≡ unfit
-      span-unfit {f} e n = by-row ∙ rw (fit, e, ne-eqb (r .span) (span f + 1) n)
+  module _ (fit : rowFits resp2 s (nodeIn r) ≡ true) where
+    pub below-unfit : below ≡ unfit → rowsRead resp2 s d (drop (rowWidth * row) t) ≡ unfit
+    below-unfit e = by-row ∙ rw (fit, e)
 
-      pub frame-got : {f : Forest} {q : List ℕ} → below ≡ got f q → r .span ≡ span f + 1 → rowsRead resp2 s d (drop (rowWidth * row) t) ≡ got (item (nodeIn r) f end) q
-      frame-got {f} e n = by-row ∙ rw (fit, e, eq-eqb (r .span) (span f + 1) n)
+    pub span-unfit : {f : Forest} {q : List ℕ} → below ≡ got f q → (r .span ≡ span f + 1 → ⊥) → rowsRead resp2 s d (drop (rowWidth * row) t) ≡ unfit
+    span-unfit {f} e n = by-row ∙ rw (fit, e, ne-eqb (r .span) (span f + 1) n)
+
+    pub frame-got : {f : Forest} {q : List ℕ} → below ≡ got f q → r .span ≡ span f + 1 → rowsRead resp2 s d (drop (rowWidth * row) t) ≡ got (item (nodeIn r) f end) q
+    frame-got {f} e n = by-row ∙ rw (fit, e, eq-eqb (r .span) (span f + 1) n)

@@ -1,5 +1,6 @@
 // The RESP2 encoder: row 0's frame of a table, as bytes, and how many they are.
 mod measure;
+mod write;
 
 use rows::Row;
 ghost use mathlib.Core.Path.{_≡_};

@@ -3,7 +3,7 @@ use mathlib.Core.Path.{_≡_, refl, sym, ap, subst, _∙_}
 use mathlib.Core.List.{List, [], _∷_}
 use mathlib.Core.Bool.{Bool, true, false}
 use Prim.Native.Nat.{ℕ, zero, suc, _+_, _-_, _*_, _≤_, _<_}
-use native.Mathlib.Omega.{arith}
+use native.Mathlib.Omega.{arith, by-contra}
 use native.Mathlib.Nat.{add-suc}
 use native.Mathlib.Numerals.{add-one}
 use lib.Dec.{eqb}
@@ -17,6 +17,9 @@ use Rattle.meaning.specs.Tree.{Reading, unfit, got, andThen, framesIn, i
 -- frames read after f
 abbrev pub after : Forest → Reading → Reading
 after f o = andThen o (λ g q. got (join f g) q)
+
+unread : {f : Forest} {r : List ℕ} → unfit ≡ got f r → ⊥
+unread e = let z : _≡_ {A = ℕ} 0 1 = cc in omega arith
 
 -- what holds of the frames read and of the words after them
 abbrev pub OfGot : (Forest → List ℕ → Type 0) → Reading → Type 0
@@ -123,6 +126,25 @@ module _ {p : List ℕ → Reading} {t : List ℕ} {n first row i : ℕ} {read :
         reads = loop-more h ∙ rw (e, x .0) (after-after read f (framesIn (n - (i + 1)) p (drop (rowWidth * (row + span f)) t)));
       }
 
+  -- where all n frames were read, the next one is one of them
+  pub record Next (f : Forest) : Type 0 where
+    pub frame : Forest
+    pub rest : List ℕ
+    pub reads : p (drop (rowWidth * row) t) ≡ got frame rest
+    pub others : Forest
+    pub is : f ≡ join read (join frame others)
+
+  pub loop-ahead : i < n → {f : Forest} {r : List ℕ} → framesIn n p (drop (rowWidth * first) t) ≡ got f r → Next f
+  loop-ahead h {f} {r} e = one (p (drop (rowWidth * row) t)) refl (sym (loop-more h) ∙ e)
+    where
+      rest-of : {g : Forest} {q : List ℕ} → p (drop (rowWidth * row) t) ≡ got g q → (o : Reading) → after read (after g o) ≡ got f r → Next f
+      rest-of {g} {q} u unfit w = absurd (unread w)
+      rest-of {g} {q} u (got k x) w = record { frame = g; rest = q; reads = u; others = k; is = cc }
+
+      one : (o : Reading) → p (drop (rowWidth * row) t) ≡ o → after read (andThen o (λ g q. after g (framesIn (n - (i + 1)) p q))) ≡ got f r → Next f
+      one unfit u w = absurd (unread w)
+      one (got g q) u w = rest-of u (framesIn (n - (i + 1)) p q) w
+
 -- ---- a frame
 
 abbrev pub nodeAt : List ℕ → ℕ → Node
@@ -198,3 +220,33 @@ module _ (fits : Node → Bool) (kids : Node → ℕ) where
         (itemIn (nodeAt t (rowWidth * row)) (getD t (rowWidth * row + 4) 0) (framesIn (kids (nodeAt t (rowWidth * row))) (frameIn fits kids d) (drop (rowWidth * (row + 1)) t))) unfit
     unfolding frameIn
     row-there h = ap (frameIn fits kids (suc d)) (row-words t row h)
+
+item-got : (h : Node) (g : Forest) (q : List ℕ) (b : Bool) {f : Forest} {r : List ℕ} → pick b (got (item h g end) q) unfit ≡ got f r → (f ≡ item h g end) × (q ≡ r)
+item-got h g q true e = (cc, cc)
+item-got h g q false e = absurd (unread e)
+
+-- a frame that was read from a row on: its row fits, and so do the frames beneath it
+pub record Parts (fits : Node → Bool) (kids : Node → ℕ) (d : ℕ) (t : List ℕ) (row : ℕ) (f : Forest) (r : List ℕ) : Type 0 where
+  pub deeper : ℕ
+  pub depth : d ≡ suc deeper
+  pub there : rowWidth * row + rowWidth ≤ length t
+  pub fit : fits (nodeAt t (rowWidth * row)) ≡ true
+  pub beneath : Forest
+  pub reads : framesIn (kids (nodeAt t (rowWidth * row))) (frameIn fits kids deeper) (drop (rowWidth * (row + 1)) t) ≡ got beneath r
+  pub is : f ≡ item (nodeAt t (rowWidth * row)) beneath end
+
+pub frame-parts : (fits : Node → Bool) (kids : Node → ℕ) (d : ℕ) (t : List ℕ) (row : ℕ) {f : Forest} {r : List ℕ} → frameIn fits kids d (drop (rowWidth * row) t) ≡ got f r → Parts fits kids d t row f r
+frame-parts fits kids zero t row e = absurd (unread (sym (frame-deep fits kids (drop (rowWidth * row) t)) ∙ e))
+frame-parts fits kids (suc d) t row {f} {r} e =
+    let there = by-contra (rowWidth * row + rowWidth) (length t) (λ l. unread (sym (row-none fits kids (suc d) t row l) ∙ e)) in
+    let h = nodeAt t (rowWidth * row) in
+    by-row there (fits h) refl (framesIn (kids h) (frameIn fits kids d) (drop (rowWidth * (row + 1)) t)) refl (sym (row-there fits kids d t row there) ∙ e)
+  where
+    by-row : rowWidth * row + rowWidth ≤ length t → (b : Bool) → fits (nodeAt t (rowWidth * row)) ≡ b
+        → (o : Reading) → framesIn (kids (nodeAt t (rowWidth * row))) (frameIn fits kids d) (drop (rowWidth * (row + 1)) t) ≡ o
+        → pick b (itemIn (nodeAt t (rowWidth * row)) (getD t (rowWidth * row + 4) 0) o) unfit ≡ got f r → Parts fits kids (suc d) t row f r
+    by-row there false b o u w = absurd (unread w)
+    by-row there true b unfit u w = absurd (unread w)
+    by-row there true b (got g q) u w =
+        let x = item-got (nodeAt t (rowWidth * row)) g q (eqb (getD t (rowWidth * row + 4) 0) (span g + 1)) w in
+        record { deeper = d; depth = refl; there = there; fit = b; beneath = g; reads = u ∙ ap (got g) (x .1); is = x .0 }

@@ -2,11 +2,17 @@
 use mathlib.Core.Path.{_≡_, sym, _∙_}
 use Prim.Native.Nat.{ℕ, _+_, _-_, _*_, _<_}
 use native.Mathlib.Omega.{arith}
+use lib.ListN.{drop}
 use borrow.Author.Needs.{needs}
+use borrow.Author.Tests.{not-true, not-false}
 use borrow.Fn.Kinds.{In}
 use borrow.Fn.PlainCycle.{Measures, is, falls, and}
-use Rattle.encoder.proofs.Steps.{no-depth, no-row}
-use Rattle.encoder.proofs.Measuring.{Counted, counted-start, counted-most, counted-end, counted-unfit, counted-next, says-unfit, unfit-row, fits-row, unfit-below, below-within, row-before, unfit-span, frame-most, frame-says}
+use Rattle.meaning.specs.Kinds.{resp2}
+use Rattle.meaning.specs.Rows.{rowWidth}
+use Rattle.meaning.specs.Tree.{framesIn}
+use Rattle.meaning.specs.Encode.{rowsRead}
+use Rattle.encoder.proofs.Steps.{Stands, no-depth, no-row, row-unfit}
+use Rattle.encoder.proofs.Measuring.{Seen, seen, none-said, Fits, unfit-below, unfit-span, frame-most, frame-said, Counted, counted-start, counted-most, counted-end, counted-unfit, counted-next}
 use Rattle.encoder.proofs.measure.children.Reads as children
 use Rattle.encoder.proofs.measure.children.Kinds as children-kinds
 use Rattle.encoder.proofs.measure.+children+frame.Lts-children as children-lts
@@ -60,10 +66,8 @@ children-enum-known-p t c = search needs
 
 children-add-bytes : (t : ℕ) → children-lts.Need-add-bytes (children-claims t) (children-at t) children.Post children-Inv-loop children-μ-loop
 children-add-bytes t c =
-    let l = c .before .before .before .before .before .loop in
-    let p = c .before .p .given in
-    let x = counted-next (l .inv) (c .before .before .before .before .loop-test .taken) (sym (p .1) ∙ c .before .before .before .frame .ensures) in
     let e = c .before .before .before .before .before .before .before .before in
+    let x = counted-next (c .before .before .before .before .before .loop .inv) (c .before .before .before .before .loop-test .taken) (sym (c .before .p .given .1) ∙ c .before .before .before .frame .ensures) in
     omega (arith, counted-most x (e .pre .1 .source) (e .pre .1 .few))
 
 children-enum-told : (t : ℕ) → children-lts.Need-enum-told (children-claims t) (children-at t) children.Post children-Inv-loop children-μ-loop
@@ -81,9 +85,7 @@ children-loop-less t c = omega arith
 
 children-loop-again : (t : ℕ) → children-lts.Need-loop-again (children-claims t) (children-at t) children.Post children-Inv-loop children-μ-loop
 children-loop-again t c =
-    let l = c .before .before .before .before .before .loop in
-    let p = c .before .p .given in
-    counted-next (l .inv) (c .before .before .before .before .loop-test .taken) (sym (p .1) ∙ c .before .before .before .frame .ensures)
+    counted-next (c .before .before .before .before .before .loop .inv) (c .before .before .before .before .loop-test .taken) (sym (c .before .p .given .1) ∙ c .before .before .before .frame .ensures)
 
 children-returns-2 : (t : ℕ) → children-lts.Need-returns-2 (children-claims t) (children-at t) children.Post children-Inv-loop children-μ-loop
 children-returns-2 t c = counted-end (c .before .loop .inv) (c .loop-test .left)
@@ -102,29 +104,39 @@ frame-claims t = (
   length-reads.Learnt,
 )
 
+-- the row that was read
+frame-stands : (t : ℕ) (c : frame-lts.After-row-at (frame-claims t) (frame-at t) frame.Post)
+    → let a = c .before .before .before .before .before .args in Stands (a .s .now) (a .t .now) (a .depth) (a .row) (c .row-at .result)
+frame-stands t c = record { some = c .before .before .if1 .left; there = c .before .if2 .left; is = c .row-at .ensures }
+
+-- it fits
+frame-fits : (t : ℕ) (c : frame-lts.After-beneath (frame-claims t) (frame-at t) frame.Post)
+    → let a = c .before .before .before .before .before .before .before .before .args in Fits (a .s .now) (a .t .now) (a .depth) (a .row) (c .before .before .before .row-at .result) (c .beneath .result)
+frame-fits t c = record { stands = frame-stands t (c .before .before .before); fit = sym (c .before .before .fits2 .ensures) ∙ not-false (c .before .before .fits2 .result) (c .before .if3 .left); count = c .beneath .ensures }
+
+-- and so do the frames beneath it
+frame-seen : (t : ℕ) (c : frame-lts.After-next (frame-claims t) (frame-at t) frame.Post)
+    → let a = c .before .before .before .before .before .before .before .before .before .before .before .args in
+    Seen (a .s .now) (a .flag) (a .row + 1) (framesIn (c .before .before .before .beneath .result) (rowsRead resp2 (a .s .now) (a .depth - 1)) (drop (rowWidth * (a .row + 1)) (a .t .now))) (c .next .given .0 .0) (c .next .given .0 .1 .0)
+frame-seen t c =
+    let a = c .before .before .before .before .before .before .before .before .before .before .before .args in
+    seen (a .s .now) (a .flag) (a .row + 1) (framesIn (c .before .before .before .beneath .result) (rowsRead resp2 (a .s .now) (a .depth - 1)) (drop (rowWidth * (a .row + 1)) (a .t .now))) (sym (c .next .given .1) ∙ c .before .before .children .ensures)
+
 frame-returns : (t : ℕ) → frame-lts.Need-returns (frame-claims t) (frame-at t) frame.Post
 frame-returns t c =
-    let e = c .before .before .before in
-    let a = e .args in
-    says-unfit (a .s .now) (a .t .now) (a .flag) (a .depth) (a .row) (no-depth (a .s .now) (a .t .now) (a .depth) (a .row) (c .if1 .taken))
+    let a = c .before .before .before .args in
+    none-said (a .s .now) (a .flag) (a .row) (no-depth (a .s .now) (a .t .now) (a .depth) (a .row) (c .if1 .taken))
 
 frame-mul-if2 : (t : ℕ) → frame-lts.Need-mul-if2 (frame-claims t) (frame-at t) frame.Post
-frame-mul-if2 t c =
-    let e = c .before .before .before in
-    let a = e .args in
-    omega (arith, e .pre .1 .few, e .pre .1 .within)
+frame-mul-if2 t c = omega (arith, c .before .before .before .pre .1 .few, c .before .before .before .pre .1 .within)
 
 frame-add-if2 : (t : ℕ) → frame-lts.Need-add-if2 (frame-claims t) (frame-at t) frame.Post
-frame-add-if2 t c =
-    let e = c .before .before .before in
-    let a = e .args in
-    omega (arith, e .pre .1 .few, e .pre .1 .within)
+frame-add-if2 t c = omega (arith, c .before .before .before .pre .1 .few, c .before .before .before .pre .1 .within)
 
 frame-returns-2 : (t : ℕ) → frame-lts.Need-returns-2 (frame-claims t) (frame-at t) frame.Post
 frame-returns-2 t c =
-    let e = c .before .before .before .before in
-    let a = e .args in
-    says-unfit (a .s .now) (a .t .now) (a .flag) (a .depth) (a .row) (no-row (a .s .now) (a .t .now) (a .depth) (a .row) (c .if2 .taken))
+    let a = c .before .before .before .before .args in
+    none-said (a .s .now) (a .flag) (a .row) (no-row (a .s .now) (a .t .now) (a .depth) (a .row) (c .if2 .taken))
 
 frame-row-at-requires : (t : ℕ) → frame-lts.Need-row-at-requires (frame-claims t) (frame-at t) frame.Post
 frame-row-at-requires t c κs = search needs
@@ -134,9 +146,8 @@ frame-fits-requires t c κs = search needs
 
 frame-returns-3 : (t : ℕ) → frame-lts.Need-returns-3 (frame-claims t) (frame-at t) frame.Post
 frame-returns-3 t c =
-    let e = c .before .before .before .before .before .before .before in
-    let a = e .args in
-    unfit-row (a .s .now) (a .t .now) (a .flag) (a .depth) (a .row) (c .before .before .before .before .if1 .left) (c .before .before .before .if2 .left) (c .before .before .row-at .result) (c .before .before .row-at .ensures) (c .before .fits2 .ensures) (c .if3 .taken)
+    let a = c .before .before .before .before .before .before .before .args in
+    none-said (a .s .now) (a .flag) (a .row) (row-unfit (frame-stands t (c .before .before)) (sym (c .before .fits2 .ensures) ∙ not-true (c .before .fits2 .result) (c .if3 .taken)))
 
 frame-beneath-requires : (t : ℕ) → frame-lts.Need-beneath-requires (frame-claims t) (frame-at t) frame.Post
 frame-beneath-requires t c κs = c .before .before .before .before .before .before .before .pre .1 .lent
@@ -144,7 +155,6 @@ frame-beneath-requires t c κs = c .before .before .before .before .before .befo
 frame-add-children : (t : ℕ) → frame-lts.Need-add-children (frame-claims t) (frame-at t) frame.Post
 frame-add-children t c =
     let e = c .before .before .before .before .before .before .before .before in
-    let a = e .args in
     omega (arith, e .pre .1 .few, e .pre .1 .within)
 
 frame-sub-children : (t : ℕ) → frame-lts.Need-sub-children (frame-claims t) (frame-at t) frame.Post
@@ -153,50 +163,38 @@ frame-sub-children t c = omega (arith, c .before .before .before .before .before
 frame-children-requires : (t : ℕ) → frame-lts.Need-children-requires (frame-claims t) (frame-at t) frame.Post
 frame-children-requires t c κs =
     let e = c .before .before .before .before .before .before .before .before in
-    let a = e .args in
-    (omega (arith, e .pre .0, c .before .before .before .before .before .if1 .left), record { source = e .pre .1 .source; few = e .pre .1 .few; within = omega (arith, c .before .before .before .before .if2 .left); lent = e .pre .1 .lent })
+    let h = frame-stands t (c .before .before .before) in
+    (omega (arith, e .pre .0, h .some), record { source = e .pre .1 .source; few = e .pre .1 .few; within = omega (arith, h .there); lent = e .pre .1 .lent })
 
 frame-enum-known-next : (t : ℕ) → frame-lts.Need-enum-known-next (frame-claims t) (frame-at t) frame.Post
 frame-enum-known-next t c = search needs
 
 frame-sub-if4 : (t : ℕ) → frame-lts.Need-sub-if4 (frame-claims t) (frame-at t) frame.Post
-frame-sub-if4 t c =
-    let e = c .before .before .before .before .before .before .before .before .before .before .before .before in
-    let a = e .args in
-    omega (arith, row-before (a .s .now) (a .t .now) (a .flag) (a .depth) (a .row) (c .before .before .before .before .before .before .before .before .before .if1 .left) (c .before .before .before .before .before .before .before .before .if2 .left) (c .before .before .before .before .before .before .before .row-at .result) (c .before .before .before .before .before .before .before .row-at .ensures) (c .before .before .before .before .before .before .fits2 .ensures) (c .before .before .before .before .before .if3 .left) (c .before .before .before .before .beneath .ensures) (sym (c .before .next .given .1) ∙ c .before .before .before .children .ensures))
+frame-sub-if4 t c = omega (arith, frame-seen t (c .before) .to)
 
 frame-returns-4 : (t : ℕ) → frame-lts.Need-returns-4 (frame-claims t) (frame-at t) frame.Post
 frame-returns-4 t c =
-    let e = c .before .before .before .before .before .before .before .before .before .before .before .before .before .before in
-    let a = e .args in
-    unfit-span (a .s .now) (a .t .now) (a .flag) (a .depth) (a .row) (c .before .before .before .before .before .before .before .before .before .before .before .if1 .left) (c .before .before .before .before .before .before .before .before .before .before .if2 .left) (c .before .before .before .before .before .before .before .before .before .row-at .result) (c .before .before .before .before .before .before .before .before .before .row-at .ensures) (c .before .before .before .before .before .before .before .before .fits2 .ensures) (c .before .before .before .before .before .before .before .if3 .left) (c .before .before .before .before .before .before .beneath .ensures) (sym (c .before .before .before .next .given .1) ∙ c .before .before .before .before .before .children .ensures) (c .if4 .taken)
+    let a = c .before .before .before .before .before .before .before .before .before .before .before .before .before .before .args in
+    none-said (a .s .now) (a .flag) (a .row) (unfit-span (frame-fits t (c .before .before .before .before .before .before)) (frame-seen t (c .before .before .before)) (c .if4 .taken))
 
 frame-length-requires : (t : ℕ) → frame-lts.Need-length-requires (frame-claims t) (frame-at t) frame.Post
-frame-length-requires t c κs =
-    let e = c .before .before .before .before .before .before .before .before .before .before .before .before .before .before in
-    let a = e .args in
-    (fits-row (a .s .now) (a .t .now) (a .flag) (a .depth) (a .row) (c .before .before .before .before .before .before .before .before .before .before .before .if1 .left) (c .before .before .before .before .before .before .before .before .before .before .if2 .left) (c .before .before .before .before .before .before .before .before .before .row-at .result) (c .before .before .before .before .before .before .before .before .before .row-at .ensures) (c .before .before .before .before .before .before .before .before .fits2 .ensures) (c .before .before .before .before .before .before .before .if3 .left) (c .before .before .before .before .before .before .beneath .ensures), e .pre .1 .source)
+frame-length-requires t c κs = (frame-fits t (c .before .before .before .before .before .before) .fit, c .before .before .before .before .before .before .before .before .before .before .before .before .before .before .pre .1 .source)
 
 frame-add-t21 : (t : ℕ) → frame-lts.Need-add-t21 (frame-claims t) (frame-at t) frame.Post
 frame-add-t21 t c =
     let e = c .before .before .before .before .before .before .before .before .before .before .before .before .before .before .before in
-    let a = e .args in
-    omega (arith, frame-most (a .s .now) (a .t .now) (a .flag) (a .depth) (a .row) (c .before .before .before .before .before .before .before .before .before .before .before .before .if1 .left) (c .before .before .before .before .before .before .before .before .before .before .before .if2 .left) (c .before .before .before .before .before .before .before .before .before .before .row-at .result) (c .before .before .before .before .before .before .before .before .before .before .row-at .ensures) (c .before .before .before .before .before .before .before .before .before .fits2 .ensures) (c .before .before .before .before .before .before .before .before .if3 .left) (c .before .before .before .before .before .before .before .beneath .ensures) (sym (c .before .before .before .before .next .given .1) ∙ c .before .before .before .before .before .before .children .ensures) (c .before .if4 .left) (c .length .ensures) (e .pre .1 .source) (e .pre .1 .few))
+    omega (arith, frame-most (frame-fits t (c .before .before .before .before .before .before .before)) (frame-seen t (c .before .before .before .before)) (c .length .ensures) (e .pre .1 .source) (e .pre .1 .few))
 
 frame-enum-told : (t : ℕ) → frame-lts.Need-enum-told (frame-claims t) (frame-at t) frame.Post
 frame-enum-told t c = search needs
 
 frame-returns-5 : (t : ℕ) → frame-lts.Need-returns-5 (frame-claims t) (frame-at t) frame.Post
-frame-returns-5 t c =
-    let e = c .before .before .before .before .before .before .before .before .before .before .before .before .before .before .before in
-    let a = e .args in
-    frame-says (a .s .now) (a .t .now) (a .flag) (a .depth) (a .row) (c .before .before .before .before .before .before .before .before .before .before .before .before .if1 .left) (c .before .before .before .before .before .before .before .before .before .before .before .if2 .left) (c .before .before .before .before .before .before .before .before .before .before .row-at .result) (c .before .before .before .before .before .before .before .before .before .before .row-at .ensures) (c .before .before .before .before .before .before .before .before .before .fits2 .ensures) (c .before .before .before .before .before .before .before .before .if3 .left) (c .before .before .before .before .before .before .before .beneath .ensures) (sym (c .before .before .before .before .next .given .1) ∙ c .before .before .before .before .before .before .children .ensures) (c .before .if4 .left) (c .length .ensures)
+frame-returns-5 t c = frame-said (frame-fits t (c .before .before .before .before .before .before .before)) (frame-seen t (c .before .before .before .before)) (c .length .ensures) (c .before .if4 .left)
 
 frame-returns-6 : (t : ℕ) → frame-lts.Need-returns-6 (frame-claims t) (frame-at t) frame.Post
 frame-returns-6 t c =
-    let e = c .before .before .before .before .before .before .before .before .before .before .before in
-    let a = e .args in
-    unfit-below (a .s .now) (a .t .now) (a .flag) (a .depth) (a .row) (c .before .before .before .before .before .before .before .before .if1 .left) (c .before .before .before .before .before .before .before .if2 .left) (c .before .before .before .before .before .before .row-at .result) (c .before .before .before .before .before .before .row-at .ensures) (c .before .before .before .before .before .fits2 .ensures) (c .before .before .before .before .if3 .left) (c .before .before .before .beneath .ensures) (sym (c .enum-told .given .1) ∙ c .before .before .children .ensures)
+    let a = c .before .before .before .before .before .before .before .before .before .before .before .args in
+    none-said (a .s .now) (a .flag) (a .row) (unfit-below (frame-fits t (c .before .before .before)) (a .flag) (sym (c .enum-told .given .1) ∙ c .before .before .children .ensures))
 
 pub +children+frame-spec : {M : Type 1} → statement M
 +children+frame-spec = close μ-children μ-frame (λ t. children-lts.spec (children-claims t)
