@@ -2,3 +2,4 @@
 mod Steps
 mod Measuring
 mod Writing
+mod Calls

@@ -1,2 +1,3 @@
 -- What the parts of the encoder promise.
 pub mod Reads
+pub mod Encodes
