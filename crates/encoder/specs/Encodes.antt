@@ -1,5 +1,5 @@
 -- What the calls answer and leave in the output, by the meaning's `encoding` and `encode`.
-use mathlib.Core.Path.{_≡_, sym, _∙_}
+use mathlib.Core.Path.{_≡_}
 use mathlib.Core.List.{List}
 use mathlib.Core.Bool.{Bool}
 use Prim.Native.Nat.{ℕ}
@@ -42,7 +42,3 @@ abbrev pub toldOf : Written → Told
 toldOf (Written.Bytes n) = record { refusal = 0; bytes = n }
 toldOf (Written.Short n) = record { refusal = 12; bytes = n }
 toldOf (Written.Refused k) = record { refusal = k; bytes = 0 }
-
--- Any two results that the promise allows are equal.
-pub one-encode : (s t : List ℕ) (flag : Bool) (out₀ out₁ out₂ : List ℕ) (r q : Written) → Encodes s t flag out₀ out₁ r → Encodes s t flag out₀ out₂ q → (r ≡ q) × (out₁ ≡ out₂)
-one-encode s t flag out₀ out₁ out₂ r q a b = (a .says ∙ sym (b .says), a .leaves ∙ sym (b .leaves))
