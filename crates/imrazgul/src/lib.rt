@@ -1,8 +1,9 @@
 // The calls that C and Rust link: each is thin, and asks nothing of its caller.
 use answers::Told;
+ghost use mathlib.Core.Path.{_≡_};
 ghost use Rattle.meaning.specs.Kinds.{resp2, resp3, resp3-stream};
 ghost use Rattle.meaning.specs.Digits.{digitsOf, signedDigitsOf};
-ghost use Rattle.imrazgul.specs.Calls.{DecodeCall, DigitsCall};
+ghost use Rattle.imrazgul.specs.Calls.{DecodeCall, EncodeCall, lengthTold, DigitsCall};
 
 // RESP2: one frame from the front of src, its rows in table.
 #[no_mangle]
@@ -26,6 +27,31 @@ pub extern "C" fn imrazgul_resp3_stream(src: &[u8], table: &mut [u64]) -> Told
     ensures { λ r. ⌜ DecodeCall resp3-stream (now (src .entry)) 0 (now (table .entry)) (now (table .exit)) r ⌝ }
 {
     answers::numbers_of(resp3::streaming(src, table))
+}
+
+// RESP2: row 0's frame of table, whose texts stand in src, to the front of out. With ints_as_bulk, integers are bulk strings.
+#[no_mangle]
+pub extern "C" fn imrazgul_resp2_encode(
+    src: &[u8],
+    table: &[u64],
+    ints_as_bulk: bool,
+    out: &mut [u8],
+) -> encoder::Told
+    ensures { λ r. ⌜ EncodeCall (now (src .entry)) (now (table .entry)) ints_as_bulk (now (out .entry)) (now (out .exit)) r ⌝ }
+{
+    encoder::numbers_of(encoder::encode(src, table, ints_as_bulk, out))
+}
+
+// How many bytes imrazgul_resp2_encode writes.
+#[no_mangle]
+pub extern "C" fn imrazgul_resp2_length(
+    src: &[u8],
+    table: &[u64],
+    ints_as_bulk: bool,
+) -> encoder::Told
+    ensures { λ r. ⌜ r ≡ lengthTold (now (src .entry)) (now (table .entry)) ints_as_bulk ⌝ }
+{
+    encoder::size_numbers(encoder::length(src, table, ints_as_bulk))
 }
 
 // The digits of n in 20 bytes; gives how many of them are unused.
