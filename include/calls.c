@@ -233,6 +233,116 @@ static void rows_that_count(const char *call, decoder *decode) {
     }
 }
 
+/* ---- the encoder ---- */
+
+/* A table of so many words, its texts in src: the bytes that it is written as, or the refusal. */
+struct encode_case {
+    const char *src;
+    size_t src_len;
+    const uint64_t *rows;
+    size_t words;
+    bool ints_as_bulk;
+    uint64_t refusal;
+    const char *bytes;
+    size_t count;
+};
+
+#define WRITTEN(bytes) 0, bytes, sizeof(bytes) - 1
+#define NOT(why) why, "", 0
+
+/* The length, and the bytes in an output that is one too short, one that is filled, and a longer one. */
+static void encodes(const char *call, size_t number, const struct encode_case *c) {
+    static uint8_t lent[AROUND + 7 * MOST_ROWS + AROUND];
+    const uint8_t *src = (const uint8_t *)c->src;
+    struct imrazgul_encoded got = imrazgul_resp2_length(src, c->src_len, c->rows, c->words, c->ints_as_bulk);
+    same(call, number, "the length's refusal", got.refusal, c->refusal);
+    same(call, number, "the length's bytes", got.bytes, c->count);
+    const size_t rooms[] = {c->count - (c->count > 0), c->count, c->count + 3};
+    for (size_t r = 0; r < COUNT(rooms); r++) {
+        for (size_t i = 0; i < COUNT(lent); i++) {
+            lent[i] = (uint8_t)(0x80 + i % 101);
+        }
+        got = imrazgul_resp2_encode(src, c->src_len, c->rows, c->words, c->ints_as_bulk, lent + AROUND, rooms[r]);
+        int fits = c->refusal == 0 && rooms[r] >= c->count;
+        same(call, number, "refusal", got.refusal, c->refusal != 0 || fits ? c->refusal : IMRAZGUL_OUTPUT_SHORT);
+        same(call, number, "bytes", got.bytes, c->count);
+        for (size_t i = 0; i < COUNT(lent); i++) {
+            int used = fits && i >= AROUND && i - AROUND < c->count;
+            same(call, number, used ? "a byte" : "a byte that is not written", lent[i],
+                 used ? (uint8_t)c->bytes[i - AROUND] : (uint8_t)(0x80 + i % 101));
+        }
+    }
+}
+
+#define TABLE(...) ROWS(__VA_ARGS__), COUNT(ROWS(__VA_ARGS__))
+
+static const struct encode_case encode_cases[] = {
+    /* 0: each kind */
+    {"abc", 3, TABLE(1, 1, 3, 0, 1, 0), false, WRITTEN("+bc\r\n")},
+    {"abc", 3, TABLE(2, 0, 1, 0, 1, 0), false, WRITTEN("-a\r\n")},
+    {"abc", 3, TABLE(7, 0, 3, 0, 1, 0), false, WRITTEN("$3\r\nabc\r\n")},
+    {"abc", 3, TABLE(7, 1, 1, 0, 1, 0), false, WRITTEN("$0\r\n\r\n")},
+    {"", 0, TABLE(6, 0, 0, 0, 1, 0), false, WRITTEN("$-1\r\n")},
+    {"", 0, TABLE(3, UINT64_MAX, 0, 0, 1, 0), false, WRITTEN(":-1\r\n")},
+    {"", 0, TABLE(3, 0x8000000000000000u, 0, 0, 1, 0), true, WRITTEN("$20\r\n-9223372036854775808\r\n")},
+    {"", 0, TABLE(13, 0, 0, 0, 1, 0), false, WRITTEN("*0\r\n")},
+    /* 8: frames in one another, with the flag and without it */
+    {"", 0, TABLE(13, 0, 0, 2, 4, 0, 13, 0, 0, 1, 2, 0, 6, 0, 0, 0, 1, 0, 3, 5, 0, 0, 1, 0), false,
+     WRITTEN("*2\r\n*1\r\n$-1\r\n:5\r\n")},
+    {"", 0, TABLE(13, 0, 0, 2, 4, 0, 13, 0, 0, 1, 2, 0, 6, 0, 0, 0, 1, 0, 3, 5, 0, 0, 1, 0), true,
+     WRITTEN("*2\r\n*1\r\n$-1\r\n$1\r\n5\r\n")},
+    /* 10: rows behind row 0's span, and words that make no row */
+    {"", 0, TABLE(6, 0, 0, 0, 1, 0, 99, 9, 9, 9, 9, 9, 13), false, WRITTEN("$-1\r\n")},
+    /* 11: tables that are none */
+    {"", 0, TABLE(6, 0, 0, 0, 1), false, NOT(IMRAZGUL_BAD_TABLE)},
+    {"abc", 3, TABLE(7, 0, 4, 0, 1, 0), false, NOT(IMRAZGUL_BAD_TABLE)},
+    {"abc", 3, TABLE(7, 2, 1, 0, 1, 0), false, NOT(IMRAZGUL_BAD_TABLE)},
+    {"abc", 3, TABLE(4, 0, 1, 0, 1, 0), false, NOT(IMRAZGUL_BAD_TABLE)},
+    {"", 0, TABLE(6, 0, 0, 0, 1, 1), false, NOT(IMRAZGUL_BAD_TABLE)},
+    {"", 0, TABLE(6, 0, 0, 0, 2, 0, 6, 0, 0, 0, 1, 0), false, NOT(IMRAZGUL_BAD_TABLE)},
+    {"", 0, TABLE(13, 0, 0, 1, 2, 0), false, NOT(IMRAZGUL_BAD_TABLE)},
+    {"", 0, TABLE(13, 0, 0, UINT64_MAX, UINT64_MAX, 0, 6, 0, 0, 0, 1, 0), false, NOT(IMRAZGUL_BAD_TABLE)},
+};
+
+/* Depth 32 is written, and depth 33 refused. */
+static void encode_depth(const char *call) {
+    static char bytes[33 * 4];
+    static uint64_t rows[6 * 33];
+    for (size_t deep = 32; deep <= 33; deep++) {
+        size_t at = 0;
+        for (size_t i = 0; i < deep; i++) {
+            put_row(rows, i, 13, 0, i + 1 < deep, deep - i);
+            at = put(bytes, at, i + 1 < deep ? "*1\r\n" : "*0\r\n");
+        }
+        struct encode_case c = {"", 0, rows, 6 * deep, false, 0, bytes, at};
+        if (deep == 33) {
+            c.refusal = IMRAZGUL_BAD_TABLE;
+            c.count = 0;
+        }
+        encodes(call, deep, &c);
+    }
+}
+
+/* An array of 4,095 numbers is written. One number more is refused, though the table has its row. */
+static void encode_rows(const char *call) {
+    static char bytes[7 * 4097];
+    static uint64_t rows[6 * 4097];
+    for (size_t n = 4095; n <= 4096; n++) {
+        size_t at = put_number(bytes, put(bytes, 0, "*"), n);
+        put_row(rows, 0, 13, 0, n, n + 1);
+        for (size_t i = 0; i < n; i++) {
+            put_row(rows, 1 + i, 3, 1000 + i, 0, 1);
+            at = put_number(bytes, put(bytes, at, ":"), 1000 + i);
+        }
+        struct encode_case c = {"", 0, rows, COUNT(rows), false, 0, bytes, at};
+        if (n == 4096) {
+            c.refusal = IMRAZGUL_BAD_TABLE;
+            c.count = 0;
+        }
+        encodes(call, n, &c);
+    }
+}
+
 /* ---- digits ---- */
 
 /* 20 bytes to lend, and what lies around them. */
@@ -301,6 +411,11 @@ int main(void) {
     all_decode("imrazgul_resp3_stream at a marker", imrazgul_resp3_stream, resp3_streaming, COUNT(resp3_streaming));
     depth("imrazgul_resp3_stream by depth", imrazgul_resp3_stream);
     rows_that_count("imrazgul_resp3_stream by rows", imrazgul_resp3_stream);
+    for (size_t i = 0; i < COUNT(encode_cases); i++) {
+        encodes("imrazgul_resp2_encode", i, &encode_cases[i]);
+    }
+    encode_depth("imrazgul_resp2_encode by depth");
+    encode_rows("imrazgul_resp2_encode by rows");
     u64_digits();
     i64_digits();
     printf("calls from C: %u looks, %u wrong\n", looks, wrong);

@@ -1,4 +1,4 @@
-/* The calls of the RESP2 and RESP3 decoders and of the digits that `rt staticlib imrazgul` builds into libimrazgul.a.
+/* The calls of the RESP2 and RESP3 decoders, the RESP2 encoder and the digits that `rt staticlib imrazgul` builds into libimrazgul.a.
  *
  * A slice is passed as a pointer and a length. No pointer may be null, also where its length is 0; table is aligned
  * to 8 bytes; what one call is lent must not overlap, unless both parts are only read. Nothing else is asked of the
@@ -17,6 +17,7 @@
 #ifndef IMRAZGUL_H
 #define IMRAZGUL_H
 
+#include <stdbool.h>
 #include <stddef.h>
 #include <stdint.h>
 
@@ -68,6 +69,9 @@ enum imrazgul_refusal {
     IMRAZGUL_BAD_ANNOTATED = 9,  /* an attribute before a frame that may have none */
     IMRAZGUL_TOO_DEEP = 10,      /* a frame at depth 33 begins */
     IMRAZGUL_TABLE_FULL = 11,    /* a row is needed and none is left */
+    IMRAZGUL_OUTPUT_SHORT = 12,  /* encode: more bytes are needed than out has */
+    IMRAZGUL_BAD_TABLE = 13,     /* encode: row 0 is not there or does not read as a RESP2 frame */
+    IMRAZGUL_LONG_SOURCE = 14,   /* encode: src has more than 4,294,967,295 bytes */
 };
 
 /* refusal is 0 unless answer is IMRAZGUL_REFUSED; consumed and rows are 0 unless it is IMRAZGUL_FRAME or
@@ -87,6 +91,21 @@ struct imrazgul_decoded imrazgul_resp3_decode(const uint8_t *src, size_t src_len
 
 /* The same, and a marker at the top is answered with IMRAZGUL_MARKER. */
 struct imrazgul_decoded imrazgul_resp3_stream(const uint8_t *src, size_t src_len, uint64_t *table, size_t words);
+
+/* bytes: how many were written, or with IMRAZGUL_OUTPUT_SHORT are needed; with another refusal 0. */
+struct imrazgul_encoded {
+    uint64_t refusal; /* 0 where there is none; else out is as it was */
+    uint64_t bytes;
+};
+
+/* Writes the RESP2 frame of row 0 of table, whose texts stand in src, to the front of out; the rest of out is as it
+ * was. src and table are only read. With ints_as_bulk, integers are written as bulk strings. */
+struct imrazgul_encoded imrazgul_resp2_encode(const uint8_t *src, size_t src_len, const uint64_t *table, size_t words,
+                                              bool ints_as_bulk, uint8_t *out, size_t out_len);
+
+/* How many bytes it writes. */
+struct imrazgul_encoded imrazgul_resp2_length(const uint8_t *src, size_t src_len, const uint64_t *table, size_t words,
+                                              bool ints_as_bulk);
 
 /* The digits of n in 20 bytes, filled with '0' on the left; gives the count of unused bytes at the front. */
 uint64_t imrazgul_u64_digits(uint64_t n, uint8_t bytes[20]);
