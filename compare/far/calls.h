@@ -19,6 +19,8 @@ struct text_answer text_call_boolean(const uint8_t *s, size_t n);
 #define SHAPE_imrazgul_resp2_decode DECODE
 #define SHAPE_imrazgul_resp3_decode DECODE
 #define SHAPE_imrazgul_resp3_stream DECODE
+#define SHAPE_imrazgul_resp2_encode ENCODE
+#define SHAPE_imrazgul_resp2_length LENGTH
 #define SHAPE_imrazgul_u64_digits U64_DIGITS
 #define SHAPE_imrazgul_i64_digits I64_DIGITS
 #define SHAPE_text_call_plain TEXT

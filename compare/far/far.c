@@ -32,6 +32,17 @@ static void say(uint64_t a, uint64_t b, uint64_t c, uint64_t d) {
         struct imrazgul_decoded d = name(at(0), s->part[0].bytes, at(1), s->part[1].bytes / 8); \
         say(d.answer, d.refusal, d.consumed, d.rows);                                           \
     }
+#define ENCODE(name)                                                                                              \
+    {                                                                                                             \
+        struct imrazgul_encoded e = name(at(0), s->part[0].bytes, at(1), s->part[1].bytes / 8, s->word != 0, at(2), \
+                                         s->part[2].bytes);                                                       \
+        say(e.refusal, e.bytes, 0, 0);                                                                            \
+    }
+#define LENGTH(name)                                                                                            \
+    {                                                                                                           \
+        struct imrazgul_encoded e = name(at(0), s->part[0].bytes, at(1), s->part[1].bytes / 8, s->word != 0); \
+        say(e.refusal, e.bytes, 0, 0);                                                                          \
+    }
 #define U64_DIGITS(name) say(name(s->word, at(0)), 0, 0, 0)
 #define I64_DIGITS(name) say(name((int64_t)s->word, at(0)), 0, 0, 0)
 #define TEXT(name)                                            \

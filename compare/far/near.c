@@ -119,6 +119,32 @@ static void done(void) { pthread_mutex_unlock(&one_at_a_time); }
         done();                                                                                       \
         return d;                                                                                     \
     }
+#define ENCODE(name)                                                                                              \
+    struct imrazgul_encoded name(const uint8_t *src, size_t src_len, const uint64_t *table, size_t words,         \
+                                 bool ints_as_bulk, uint8_t *out, size_t out_len) {                               \
+        begin();                                                                                                  \
+        put(0, src, src_len);                                                                                     \
+        put(1, table, 8 * words);                                                                                 \
+        lend(2, out, out_len);                                                                                    \
+        s->word = ints_as_bulk;                                                                                   \
+        pass(CALL_##name);                                                                                        \
+        take(2, out);                                                                                             \
+        struct imrazgul_encoded e = {.refusal = s->said[0], .bytes = s->said[1]};                                 \
+        done();                                                                                                   \
+        return e;                                                                                                 \
+    }
+#define LENGTH(name)                                                                                              \
+    struct imrazgul_encoded name(const uint8_t *src, size_t src_len, const uint64_t *table, size_t words,         \
+                                 bool ints_as_bulk) {                                                             \
+        begin();                                                                                                  \
+        put(0, src, src_len);                                                                                     \
+        put(1, table, 8 * words);                                                                                 \
+        s->word = ints_as_bulk;                                                                                   \
+        pass(CALL_##name);                                                                                        \
+        struct imrazgul_encoded e = {.refusal = s->said[0], .bytes = s->said[1]};                                 \
+        done();                                                                                                   \
+        return e;                                                                                                 \
+    }
 #define DIGITS(name, type)                     \
     uint64_t name(type n, uint8_t bytes[20]) { \
         begin();                               \
