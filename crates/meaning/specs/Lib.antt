@@ -11,6 +11,7 @@ pub mod Decode
 pub mod Digits
 pub mod Tree
 pub mod Encode
+pub mod Trips
 pub mod Samples
 pub mod RuleSamples
 pub mod Cells
@@ -25,3 +26,4 @@ pub mod DecodeLaws
 pub mod DigitLaws
 pub mod TreeLaws
 pub mod EncodeLaws
+pub mod TripLaws
