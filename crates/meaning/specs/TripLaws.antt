@@ -1,35 +1,36 @@
 -- The round trips (RULES 5.6): what is encoded is decoded as the same frame, and what is decoded is encoded as the same bytes.
 use mathlib.Core.Path.{_≡_, refl, sym, ap, subst, _∙_}
 use mathlib.Core.List.{List, [], _∷_, _++_, append-assoc, append-nil}
-use mathlib.Core.Bool.{Bool, true, false, _&&_, _||_, and-false}
+use mathlib.Core.Bool.{Bool, true, false, _&&_, _||_, and-false, and-assoc}
 use mathlib.Core.Option.{Option, none, some}
 use Prim.Native.Nat.{ℕ, zero, suc, _+_, _-_, _*_, _^_, _≤_, _<_}
 use Prim.Native.Char.{code}
-use native.Mathlib.Nat.{add-zero}
+use native.Mathlib.Nat.{add-zero, add-assoc}
+use native.Mathlib.Numerals.{add-one}
 use native.Mathlib.Omega.{arith}
 use lib.IntN.{pos, negsuc}
-use lib.ListN.{length, take, drop, getD, length-append, length-take, length-drop}
-use lib.Seq.{drop-drop, take-at, drop-append-seam, take-append-seam, take-append-add}
+use lib.ListN.{length, take, drop, getD, take-append-drop, drop-of-length-le, length-append, length-take, length-drop}
+use lib.Seq.{drop-cons, drop-drop, take-all, take-take, take-at, drop-append-seam, take-append-seam, take-append-add}
 use lib.Dec.{ltb, leb, eqb}
-use borrow.Author.Tests.{eqb-true, eq-eqb, ne-eqb, le-leb, lt-ltb, leb-true, ltb-true, ltb-false}
+use borrow.Author.Tests.{eqb-true, eq-eqb, ne-eqb, le-leb, lt-ltb, leb-true, leb-false, ltb-true, ltb-false, le-ltb}
 use Rattle.meaning.specs.Choice.{pick}
 use Rattle.meaning.specs.Demand.{bytes, line, up, lineLen, serves}
-use Rattle.meaning.specs.DemandLaws.{none≢some}
-use Rattle.meaning.specs.Prog.{Prog, ret, Out, done, run}
-use Rattle.meaning.specs.ProgLaws.{then, Gives, gives-run, When}
-use Rattle.meaning.specs.Text.{codes, same, isDigit, digitsFrom, digits, Num, plus, minus, plusOf, minusOf, signed, count, lengthOf}
+use Rattle.meaning.specs.DemandLaws.{some-inj, none≢some}
+use Rattle.meaning.specs.Prog.{Prog, ret, Out, done, refused, unfinished, run}
+use Rattle.meaning.specs.ProgLaws.{then, Gives, gives-run, When, weighs-run, Settled, ends, starts}
+use Rattle.meaning.specs.Text.{codes, same, isDigit, digitsFrom, digits, Num, plus, minus, plusOf, minusOf, signed, Length, count, minusOne, lengthOf}
 use Rattle.meaning.specs.Kinds.{Profile, resp2, kindOf, lookup, typeByte, byteIn, hasChildren, SimpleString, SimpleError, Number, Null, BlobString, Array, Marker}
 use Rattle.meaning.specs.Rows.{Node, nodeOf, Forest, end, item, join, frameKind, span, words, rowWidth, mostRows, rowsIn}
 use Rattle.meaning.specs.RowsLaws.{join-end, span-join, words-join, length-words}
-use Rattle.meaning.specs.Frames.{Step, leaf, holder, lineP, textLineP, numbered, sized, lengthFor, lengthP, bulkP, headP, framesP, restP, typeP, frameP, depthLimit}
-use Rattle.meaning.specs.Decode.{frame, outcomeOf, decode}
-use Rattle.meaning.specs.FramesLaws.{frame-no-marker}
-use Rattle.meaning.specs.RunLaws.{ask-some, bytes-there, frames-none, frames-more, holder-run, array-holds, frame-run, leaf-run, unmarked-run, decodeRun-is, decode-is}
+use Rattle.meaning.specs.Frames.{Step, leaf, holder, lineP, textLineP, numberP, numbered, sized, lengthFor, lengthP, bulkP, holderP, headP, framesP, restP, typeP, frameP, depthLimit}
+use Rattle.meaning.specs.Decode.{frame, marker, outcomeOf, decode}
+use Rattle.meaning.specs.FramesLaws.{frame-fills, frame-no-marker}
+use Rattle.meaning.specs.RunLaws.{ask-none, ask-some, bytes-there, bytes-short, type-there, type-short, mapOut, frames-none, next, frames-more, over, holder-run, array-holds, frame-deep, frame-full, frame-run, leaf-run, unmarked-run, decodeRun-is, decode-is}
 use Rattle.meaning.specs.Digits.{digitsOf, signedDigitsOf, signedWord, shown}
 use Rattle.meaning.specs.DigitLaws.{read-shown, read-plus, read-signed}
 use Rattle.meaning.specs.Tree.{Reading, unfit, got, andThen, framesIn, itemIn, frameIn}
-use Rattle.meaning.specs.Encode.{rowFits, childrenOf, present, topIn, crlf, countFor, bulkFor, integerText, textIn, lineOf, encoded, able, unable, encodingOf, sourceLimit, encoding}
-use Rattle.meaning.specs.Trips.{isLine, hasText, Words64, Each, Clean, SameRow, Alike, neither, both, textFrom, placedRow, placed}
+use Rattle.meaning.specs.Encode.{rowFits, childrenOf, present, topIn, crlf, lineFor, countFor, bulkFor, integerText, textIn, lineOf, encoded, able, unable, encodingOf, sourceLimit, encoding}
+use Rattle.meaning.specs.Trips.{isLine, hasText, Words64, Each, Clean, SameRow, Alike, neither, both, textFrom, placedRow, placed, lineAt, spelledRow, behindRow, behind, spelled}
 
 -- ---- rows read as frames
 
@@ -640,3 +641,448 @@ module _ (s t b : List ℕ) (f : Forest) (r : List ℕ) (able-b : encoding resp2
       → (decode resp2 depthLimit lim (b ++ more) 0 ≡ frame (length b) (span f) (words (placed s 0 f))) × Alike s b f (placed s 0 f)
   encode-decode wide clean lim room more =
       (encode-decode-at wide clean (b ++ more) 0 more refl lim room, encode-decode-alike b 0 [] (sym (append-nil b)))
+
+-- ---- lines that are there
+
+same-true : (a b : List ℕ) → same a b ≡ true → a ≡ b
+unfolding same
+same-true [] [] e = refl
+same-true [] (b ∷ t) e = untrue (sym e)
+same-true (a ∷ s) [] e = untrue (sym e)
+same-true (a ∷ s) (b ∷ t) e = let both = and-split (eqb a b) (same s t) e in rw (eqb-true a b (both .0), same-true s t (both .1))
+
+line-split : (l : List ℕ) (n : ℕ) → lineLen l ≡ some n → (t : List ℕ) × (l ≡ t ++ (crlf ++ drop n l)) × (n ≡ length t + 2)
+unfolding lineLen
+line-split [] n e = none≢some e
+line-split (a ∷ []) n e = none≢some e
+line-split (a ∷ b ∷ l) n e = go (eqb a 13 && eqb b 10) refl (lineLen (b ∷ l)) (line-split (b ∷ l)) e
+  where
+    go : (x : Bool) → (eqb a 13 && eqb b 10) ≡ x → (o : Option ℕ) → ((m : ℕ) → o ≡ some m → (t : List ℕ) × (b ∷ l ≡ t ++ (crlf ++ drop m (b ∷ l))) × (m ≡ length t + 2))
+        → pick x (some 2) (up o) ≡ some n → (t : List ℕ) × (a ∷ b ∷ l ≡ t ++ (crlf ++ drop n (a ∷ b ∷ l))) × (n ≡ length t + 2)
+    go true x o ih q =
+        let two : 2 ≡ n = some-inj q in
+        let ends = and-split (eqb a 13) (eqb b 10) x in
+        ([], rw (← two, eqb-true a 13 (ends .0), eqb-true b 10 (ends .1)), sym two)
+    go false x none ih q = none≢some q
+    go false x (some m) ih q =
+        let more : suc m ≡ n = some-inj q in
+        let rest = ih m refl in
+        (a ∷ rest .0, rw (← more) (ap (λ (y : List ℕ). a ∷ y) (rest .1)), omega (arith, rest .2))
+
+-- the text t of a line that begins at a place, and the place n behind it
+record OnLine (s : List ℕ) (at : ℕ) (t : List ℕ) (n : ℕ) : Type 0 where
+  is : lineAt s at ≡ t
+  bytes : drop at s ≡ t ++ (crlf ++ drop n s)
+  size : n ≡ at + length t + 2
+  inside : n ≤ length s
+
+line-there : (s : List ℕ) (at n : ℕ) (t : List ℕ) → lineLen (drop at s) ≡ some n → drop at s ≡ t ++ (crlf ++ drop n (drop at s)) → n ≡ length t + 2 → OnLine s at t (at + n)
+unfolding lineAt
+line-there s at n t e parts size =
+    let whole : drop at s ≡ t ++ (crlf ++ drop (at + n) s) = parts ∙ ap (λ (x : List ℕ). t ++ (crlf ++ x)) (drop-drop n at s) in
+    let short : n - 2 ≡ length t = omega arith in
+    let left : length (drop at s) ≡ length t + length (crlf ++ drop (at + n) s) = ap length whole ∙ length-append t (crlf ++ drop (at + n) s) in
+    record {
+      is = rw (e, short) (ap (λ (x : List ℕ). take (length t) x) whole ∙ take-append-seam t (crlf ++ drop (at + n) s));
+      bytes = whole;
+      size = omega arith;
+      inside = omega (arith, length-drop at s);
+    }
+
+-- what holds behind a line holds of its program
+when-line : {A : Type 0} (P : A → ℕ → ℕ → Type 0) (s : List ℕ) (lim at used : ℕ) (f : List ℕ → Prog A)
+    → ((t : List ℕ) (n : ℕ) → OnLine s at t n → When P (run (f t) s lim n used)) → When P (run (lineP f) s lim at used)
+unfolding serves
+when-line P s lim at used f each = go (lineLen (drop at s)) refl
+  where
+    go : (o : Option ℕ) → lineLen (drop at s) ≡ o → When P (run (lineP f) s lim at used)
+    go none e = subst (When P) (sym (ask-none s lim at used line (λ c. f (take (length c - 2) c)) e)) tt
+    go (some n) e =
+        let l = line-split (drop at s) n e in
+        let o = line-there s at n (l .0) e (l .1) (l .2) in
+        let text : take (length (take n (drop at s)) - 2) (take n (drop at s)) ≡ l .0 =
+        ap (λ (m : ℕ). take (length (take m (drop at s)) - 2) (take m (drop at s))) (l .2) ∙ cut s lim at used (l .0) (drop (at + n) s) (o .bytes)
+        in
+        subst (When P) (sym (ask-some s lim at used line (λ c. f (take (length c - 2) c)) n e ∙ ap (λ (t : List ℕ). run (f t) s lim (at + n) used) text)) (each (l .0) (at + n) o)
+
+-- ---- heads that were read
+
+-- in RESP2 a type byte and its kind
+kind2-cases : (P : ℕ → ℕ → Type 0) → ((b : ℕ) → P b 0) → P 43 1 → P 45 2 → P 58 3 → P 36 7 → P 42 13 → (b : ℕ) → P b (kindOf resp2 b)
+unfolding kindOf lookup
+kind2-cases P other one two three seven thirteen b = go (eqb 43 b) (eqb 45 b) (eqb 58 b) (eqb 36 b) (eqb 42 b) refl refl refl refl refl
+  where
+    go : (x₁ x₂ x₃ x₇ x₁₃ : Bool) → eqb 43 b ≡ x₁ → eqb 45 b ≡ x₂ → eqb 58 b ≡ x₃ → eqb 36 b ≡ x₇ → eqb 42 b ≡ x₁₃ → P b (pick x₁ 1 (pick x₂ 2 (pick x₃ 3 (pick x₇ 7 (pick x₁₃ 13 0)))))
+    go true x₂ x₃ x₇ x₁₃ e₁ e₂ e₃ e₇ e₁₃ = subst (λ (c : ℕ). P c 1) (eqb-true 43 b e₁) one
+    go false true x₃ x₇ x₁₃ e₁ e₂ e₃ e₇ e₁₃ = subst (λ (c : ℕ). P c 2) (eqb-true 45 b e₂) two
+    go false false true x₇ x₁₃ e₁ e₂ e₃ e₇ e₁₃ = subst (λ (c : ℕ). P c 3) (eqb-true 58 b e₃) three
+    go false false false true x₁₃ e₁ e₂ e₃ e₇ e₁₃ = subst (λ (c : ℕ). P c 7) (eqb-true 36 b e₇) seven
+    go false false false false true e₁ e₂ e₃ e₇ e₁₃ = subst (λ (c : ℕ). P c 13) (eqb-true 42 b e₁₃) thirteen
+    go false false false false false e₁ e₂ e₃ e₇ e₁₃ = other b
+
+-- the bytes of a row with a text
+line-text : (s : List ℕ) (k a b : ℕ) → isLine k ≡ true → lineOf resp2 s false (nodeOf k a b 0 0) ≡ lineFor resp2 k (take (b - a) (drop a s))
+unfolding lineOf
+line-text s k a b e = rw e
+
+line-blob : (s : List ℕ) (a b : ℕ) → lineOf resp2 s false (nodeOf BlobString a b 0 0) ≡ bulkFor resp2 BlobString (take (b - a) (drop a s))
+unfolding lineOf
+line-blob s a b = refl
+
+module _ (s : List ℕ) (at : ℕ) where
+  -- A row that was read at a place, up to n: it fits, it ends there, and spelled as the encoder spells its bytes are the encoder's.
+  record Headed (h : Node) (n : ℕ) : Type 0 where
+    row : Row s h
+    ends : behindRow s at h ≡ n
+    bytes : spelledRow s at h ≡ true → drop at s ≡ lineOf resp2 s false h ++ drop n s
+
+  -- a type byte, and its line behind it
+  module _ (b : ℕ) (first : drop at s ≡ b ∷ drop (at + 1) s) (t : List ℕ) (n : ℕ) (o : OnLine s (at + 1) t n) where
+    line-bytes : drop at s ≡ (b ∷ (t ++ crlf)) ++ drop n s
+    line-bytes = first ∙ ap (λ (x : List ℕ). b ∷ x) (o .bytes ∙ sym (append-assoc t crlf (drop n s)))
+
+    -- where the row's own bytes end, unless it is a blob
+    line-ends : (h : Node) → eqb (h .kind) BlobString ≡ false → behindRow s at h ≡ n
+    unfolding behindRow
+    line-ends h kind = rw (kind, o .is) (sym (o .size))
+
+    text-headed : (k : ℕ) → isLine k ≡ true → eqb k BlobString ≡ false → b ≡ typeByte resp2 k → Row s (nodeOf k (at + 1) (at + 1 + length t) 0 0)
+        → Headed (nodeOf k (at + 1) (at + 1 + length t) 0 0) n
+    text-headed k kind other byte row =
+        let size : at + 1 + length t - (at + 1) ≡ length t = omega arith in
+        let text : take (at + 1 + length t - (at + 1)) (drop (at + 1) s) ≡ t = rw (size, o .bytes) (take-append-seam t (crlf ++ drop n s)) in
+        record {
+          row = row;
+          ends = line-ends (nodeOf k (at + 1) (at + 1 + length t) 0 0) other;
+          bytes = λ z. line-bytes ∙ rw (line-text s k (at + 1) (at + 1 + length t) kind, text, byte);
+        }
+
+    number-headed : (w : ℕ) → b ≡ code ":" → Headed (nodeOf Number w 0 0 0) n
+    unfolding spelledRow lineOf typeByte byteIn
+    number-headed w byte = record {
+      row = number w;
+      ends = line-ends (nodeOf Number w 0 0 0) refl;
+      bytes = λ z. line-bytes ∙ rw (byte, sym (o .is) ∙ same-true (lineAt s (at + 1)) (integerText w) z);
+    }
+
+    array-headed : (m : ℕ) → b ≡ code "*" → Headed (nodeOf Array 0 0 m 0) n
+    unfolding spelledRow lineOf typeByte byteIn
+    array-headed m byte = record {
+      row = array m;
+      ends = line-ends (nodeOf Array 0 0 m 0) refl;
+      bytes = λ z. line-bytes ∙ rw (byte, sym (o .is) ∙ same-true (lineAt s (at + 1)) (shown (digitsOf m)) z);
+    }
+
+    null-headed : getD s at 0 ≡ b → Headed (nodeOf Null 0 0 0 0) n
+    unfolding spelledRow lineOf typeByte byteIn
+    null-headed byte = record {
+      row = null;
+      ends = line-ends (nodeOf Null 0 0 0 0) refl;
+      bytes = λ z.
+          let both = and-split (eqb (getD s at 0) 36) (same (lineAt s (at + 1)) (codes "-1")) z in
+          line-bytes ∙ rw (sym byte ∙ eqb-true (getD s at 0) 36 (both .0), sym (o .is) ∙ same-true (lineAt s (at + 1)) (codes "-1") (both .1));
+    }
+
+    blob-headed : (m : ℕ) → b ≡ code "$" → n + (m + 2) ≤ length s → Headed (nodeOf BlobString n (n + m) 0 0) (n + (m + 2))
+    unfolding behindRow spelledRow typeByte byteIn
+    blob-headed m byte inside = record { row = blob n (n + m) (omega arith) (omega arith); ends = omega arith; bytes = blob-bytes }
+      where
+        text : List ℕ
+        text = take m (drop n s)
+
+        size : length text ≡ m
+        size = simp (length-take, length-drop) (omega arith)
+
+        whole : n + m - n ≡ m
+        whole = omega arith
+
+        blob-bytes : spelledRow s at (nodeOf BlobString n (n + m) 0 0) ≡ true → drop at s ≡ lineOf resp2 s false (nodeOf BlobString n (n + m) 0 0) ++ drop (n + (m + 2)) s
+        blob-bytes z =
+            let both = and-split (same (lineAt s (at + 1)) (shown (digitsOf (n + m - n)))) (same (take 2 (drop (n + m) s)) crlf) z in
+            let left : List ℕ = drop (n + (m + 2)) s in
+            let after : drop (n + m) s ≡ crlf ++ left =
+            sym (take-append-drop 2 (drop (n + m) s)) ∙ rw (same-true (take 2 (drop (n + m) s)) crlf (both .1), drop-drop 2 (n + m) s, add-assoc n m 2)
+            in
+            let rest : drop n s ≡ text ++ (crlf ++ left) = sym (take-append-drop m (drop n s)) ∙ rw (drop-drop m n s, after) in
+            let digits : t ≡ shown (digitsOf (length text)) = sym (o .is) ∙ same-true (lineAt s (at + 1)) (shown (digitsOf (n + m - n))) (both .0) ∙ ap (λ (x : ℕ). shown (digitsOf x)) (whole ∙ sym size) in
+            let count : List ℕ = countFor resp2 BlobString (length text) in
+            let head : b ∷ (t ++ crlf) ≡ count = rw (byte, digits) in
+            line-bytes
+            ∙ ap (λ (x : List ℕ). x ++ drop n s) head
+            ∙ ap (λ (x : List ℕ). count ++ x) (rest ∙ sym (append-assoc text crlf left))
+            ∙ sym (append-assoc count (text ++ crlf) left)
+            ∙ rw (line-blob s n (n + m), whole)
+
+-- what a head's run gives
+module _ (s : List ℕ) (lim at used : ℕ) where
+  abbrev Heads : Step → ℕ → ℕ → Type 0
+  Heads st n u = (h : Node) × (st ≡ stepOf h) × Headed s at h n
+
+  module _ (b : ℕ) (first : drop at s ≡ b ∷ drop (at + 1) s) (byte : getD s at 0 ≡ b) where
+    text-heads : (k : ℕ) → isLine k ≡ true → hasChildren k ≡ false → eqb k BlobString ≡ false → b ≡ typeByte resp2 k
+        → ((x y : ℕ) → x ≤ y → y ≤ length s → Row s (nodeOf k x y 0 0)) → When Heads (run (textLineP resp2 k) s lim (at + 1) used)
+    unfolding run
+    text-heads k kind plain other type row =
+        when-line Heads s lim (at + 1) used (λ t. ret (leaf k (at + 1) (at + 1 + length t) 0)) (λ t n o. (
+          nodeOf k (at + 1) (at + 1 + length t) 0 0,
+          rw plain,
+          text-headed s at b first t n o k kind other type (row (at + 1) (at + 1 + length t) (omega arith) (omega (arith, o .size, o .inside))),
+        ))
+
+    number-heads : b ≡ code ":" → When Heads (run (numberP resp2) s lim (at + 1) used)
+    unfolding run
+    number-heads type = when-line Heads s lim (at + 1) used (λ t. numbered (signed t)) (λ t n o. go t n o (signed t))
+      where
+        go : (t : List ℕ) (n : ℕ) → OnLine s (at + 1) t n → (z : Option Num) → When Heads (run (numbered z) s lim n used)
+        go t n o none = tt
+        go t n o (some (plus m)) = (nodeOf Number m 0 0 0, refl, number-headed s at b first t n o m type)
+        go t n o (some (minus m)) = (nodeOf Number (2 ^ 64 - m) 0 0 0, refl, number-headed s at b first t n o (2 ^ 64 - m) type)
+
+    length-heads : (k : ℕ) (f : ℕ → Prog Step) → ((t : List ℕ) (n : ℕ) → OnLine s (at + 1) t n → (m : ℕ) → When Heads (run (f m) s lim n used))
+        → When Heads (run (lengthP resp2 k f) s lim (at + 1) used)
+    unfolding run
+    length-heads k f each = when-line Heads s lim (at + 1) used (λ t. sized resp2 k f (lengthFor resp2 k t)) (λ t n o. go t n o (lengthFor resp2 k t))
+      where
+        go : (t : List ℕ) (n : ℕ) → OnLine s (at + 1) t n → (z : Option Length) → When Heads (run (sized resp2 k f z) s lim n used)
+        go t n o none = tt
+        go t n o (some (count m)) = each t n o m
+        go t n o (some minusOne) = (nodeOf Null 0 0 0 0, refl, null-headed s at b first t n o byte)
+
+    -- a blob's bytes, where they are there
+    bulk-run : (n m : ℕ) → m + 2 ≤ length s - n → run (bulkP resp2 BlobString m) s lim n used ≡ done (leaf BlobString n (n + m) 0) (n + (m + 2)) used
+    unfolding run
+    bulk-run n m le = bytes-there s lim n used (m + 2) (λ c. ret (leaf BlobString n (n + m) 0)) le
+
+    bulk-short : (n m : ℕ) → length s - n < m + 2 → run (bulkP resp2 BlobString m) s lim n used ≡ unfinished
+    unfolding run
+    bulk-short n m lt = bytes-short s lim n used (m + 2) (λ c. ret (leaf BlobString n (n + m) 0)) lt
+
+    blob-heads : b ≡ code "$" → When Heads (run (lengthP resp2 BlobString (bulkP resp2 BlobString)) s lim (at + 1) used)
+    blob-heads type = length-heads BlobString (bulkP resp2 BlobString) (λ t n o m. go t n o m (leb (m + 2) (length s - n)) refl)
+      where
+        go : (t : List ℕ) (n : ℕ) → OnLine s (at + 1) t n → (m : ℕ) (x : Bool) → leb (m + 2) (length s - n) ≡ x → When Heads (run (bulkP resp2 BlobString m) s lim n used)
+        go t n o m true e =
+            let le : m + 2 ≤ length s - n = leb-true (m + 2) (length s - n) e in
+            subst (When Heads) (sym (bulk-run n m le)) (nodeOf BlobString n (n + m) 0 0, refl, blob-headed s at b first t n o m type (omega arith))
+        go t n o m false e = subst (When Heads) (sym (bulk-short n m (leb-false (m + 2) (length s - n) e))) tt
+
+    array-heads : b ≡ code "*" → When Heads (run (holderP resp2 Array) s lim (at + 1) used)
+    unfolding run
+    array-heads type = length-heads Array (λ n. ret (holder Array n)) (λ t n o m. (nodeOf Array 0 0 m 0, refl, array-headed s at b first t n o m type))
+
+  kind-heads : (b : ℕ) → drop at s ≡ b ∷ drop (at + 1) s → getD s at 0 ≡ b → When Heads (run (headP resp2 (kindOf resp2 b)) s lim (at + 1) used)
+  unfolding run headP typeByte byteIn
+  kind-heads = kind2-cases (λ b k. drop at s ≡ b ∷ drop (at + 1) s → getD s at 0 ≡ b → When Heads (run (headP resp2 k) s lim (at + 1) used))
+      (λ b e q. tt)
+      (λ e q. text-heads 43 e q SimpleString refl refl refl refl string)
+      (λ e q. text-heads 45 e q SimpleError refl refl refl refl error)
+      (λ e q. number-heads 58 e q refl)
+      (λ e q. blob-heads 36 e q refl)
+      (λ e q. array-heads 42 e q refl)
+
+  heads : When Heads (run (typeP resp2 (headP resp2)) s lim at used)
+  heads = go (ltb at (length s)) refl
+    where
+      go : (x : Bool) → ltb at (length s) ≡ x → When Heads (run (typeP resp2 (headP resp2)) s lim at used)
+      go false e = subst (When Heads) (sym (type-short s lim at used resp2 (headP resp2) (ltb-false at (length s) e))) tt
+      go true e =
+          let lt : at < length s = ltb-true at (length s) e in
+          subst (When Heads) (sym (type-there s lim at used resp2 (headP resp2) lt)) (kind-heads (getD s at 0) (drop-cons s at 0 lt ∙ rw (add-one at)) refl)
+
+-- ---- frames that were read
+
+module _ (s : List ℕ) where
+  -- frames that were read at a place, up to n: they end there, and spelled as the encoder spells their bytes are the encoder's
+  record Told (at : ℕ) (f : Forest) (n : ℕ) : Type 0 where
+    ends : behind s at f ≡ n
+    bytes : spelled s at f ≡ true → drop at s ≡ encoded resp2 s false f ++ drop n s
+
+  told-none : (at : ℕ) → Told at end at
+  unfolding behind spelled encoded
+  told-none at = record { ends = refl; bytes = λ z. refl }
+
+  behind-join : (at : ℕ) (f g : Forest) → behind s at (join f g) ≡ behind s (behind s at f) g
+  unfolding behind join
+  behind-join at end g = refl
+  behind-join at (item h k r) g = behind-join (behind s (behindRow s at h) k) r g
+
+  spelled-join : (at : ℕ) (f g : Forest) → spelled s at (join f g) ≡ (spelled s at f && spelled s (behind s at f) g)
+  unfolding spelled behind join
+  spelled-join at end g = refl
+  spelled-join at (item h k r) g =
+      ap (λ (x : Bool). spelledRow s at h && spelled s (behindRow s at h) k && x) (spelled-join (behind s (behindRow s at h) k) r g)
+      ∙ sym (and-assoc (spelledRow s at h && spelled s (behindRow s at h) k) (spelled s (behind s (behindRow s at h) k) r) (spelled s (behind s (behind s (behindRow s at h) k) r) g))
+
+  told-join : {at n m : ℕ} (f g : Forest) → Told at f n → Told n g m → Told at (join f g) m
+  told-join {at} {n} {m} f g x y = record {
+    ends = behind-join at f g ∙ rw (x .ends) (y .ends);
+    bytes = λ z.
+        let both = and-split (spelled s at f) (spelled s (behind s at f) g) (sym (spelled-join at f g) ∙ z) in
+        let next : drop n s ≡ encoded resp2 s false g ++ drop m s = y .bytes (ap (λ (k : ℕ). spelled s k g) (sym (x .ends)) ∙ both .1) in
+        x .bytes (both .0) ∙ rw (next, encoded-join s f g, append-assoc (encoded resp2 s false f) (encoded resp2 s false g) (drop m s));
+  }
+
+  told-item : {at n m : ℕ} (h : Node) (g : Forest) → Headed s at h n → Told n g m → Told at (item h g end) m
+  unfolding behind spelled
+  told-item {at} {n} {m} h g x y = record {
+    ends = rw (x .ends) (y .ends);
+    bytes = λ z.
+        let outer = and-split (spelledRow s at h && spelled s (behindRow s at h) g) true z in
+        let both = and-split (spelledRow s at h) (spelled s (behindRow s at h) g) (outer .0) in
+        let next : drop n s ≡ encoded resp2 s false g ++ drop m s = y .bytes (ap (λ (k : ℕ). spelled s k g) (sym (x .ends)) ∙ both .1) in
+        x .bytes (both .0) ∙ rw (next, encoded-item s h g, append-assoc (lineOf resp2 s false h) (encoded resp2 s false g) (drop m s));
+  }
+
+  -- what a program reads is so, and each frame P
+  abbrev Tells : (Forest → Type 0) → Prog Forest → Type 0
+  Tells P p = (lim at used : ℕ) → When (λ f n u. P f × Told at f n) (run p s lim at used)
+
+  frames-told : (p : Prog Forest) (P : Forest → Type 0) → Tells P p → (n : ℕ) → Tells (Many P n) (framesP n p)
+  frames-told p P each zero lim at used = subst (When (λ f n u. Many P zero f × Told at f n)) (sym (frames-none p s lim at used)) (refl, told-none at)
+  frames-told p P each (suc n) lim at used =
+      subst (When Q) (sym (frames-more p s lim at used n)) (go (run p s lim at used) (each lim at used) (frames-told p P each n lim))
+    where
+      Q : Forest → ℕ → ℕ → Type 0
+      Q f m u = Many P (suc n) f × Told at f m
+
+      rest : (f : Forest) (a : ℕ) → P f × Told at f a → (o : Out Forest) → When (λ g m u. Many P n g × Told a g m) o → When Q (mapOut (join f) o)
+      rest f a x (done g m u) y = ((f, g, refl, x .0, y .0), told-join f g (x .1) (y .1))
+      rest f a x (refused k m) y = tt
+      rest f a x unfinished y = tt
+
+      marked : (x : Bool) (a : ℕ) (o : Out Forest) → When Q o → When Q (pick x (refused 6 a) o)
+      marked true a o h = tt
+      marked false a o h = h
+
+      go : (o : Out Forest) → When (λ f m u. P f × Told at f m) o → ((a u : ℕ) → When (λ g m u. Many P n g × Told a g m) (run (framesP n p) s lim a u))
+          → When Q (then o (next p s lim at used n))
+      go (done f a u) x ih = marked (eqb (frameKind f) Marker) a (mapOut (join f) (run (framesP n p) s lim a u)) (rest f a x (run (framesP n p) s lim a u) (ih a u))
+      go (refused k m) x ih = tt
+      go unfinished x ih = tt
+
+  -- a row that was read, and then the frames beneath it
+  module _ (p : Prog Forest) (P : Forest → Type 0) (each : Tells P p) (lim at place used : ℕ) where
+    abbrev Item : Forest → ℕ → ℕ → Type 0
+    Item f n u = Over (rowFits resp2 s) childrenOf P f × Told at f n
+
+    leaf-told : (h : Node) → hasChildren (h .kind) ≡ false → h .attribute ≡ 0 → Headed s at h place → When Item (run (restP p 0 (stepOf h)) s lim place used)
+    leaf-told h kind plain x =
+        let ran : run (restP p 0 (stepOf h)) s lim place used ≡ done (item h end end) place used =
+        rw kind
+        (leaf-run p 0 s lim place used (h .kind) (h .w1) (h .w2) (h .w3)
+        ∙ ap (λ (w : ℕ). done (item (nodeOf (h .kind) (h .w1) (h .w2) (h .w3) w) end end) place used) (sym plain))
+        in
+        subst (When Item) (sym ran) (record { top = h; below = end; is = refl; fit = fits-of s (x .row); many = rw kind refl }, told-item h end x (told-none place))
+
+    array-told : (n : ℕ) → Headed s at (nodeOf Array 0 0 n 0) place → When Item (run (restP p 0 (holder Array n)) s lim place used)
+    array-told n x =
+        subst (When Item) (sym (holder-run p s lim place used 0 Array n)) (go (run (framesP n p) s lim place used) (frames-told p P each n lim place used))
+      where
+        go : (o : Out Forest) → When (λ g m u. Many P n g × Told place g m) o → When Item (then o (over p s lim place used 0 Array n))
+        go (done g m u) y =
+            rw (array-holds g) (record { top = nodeOf Array 0 0 n 0; below = g; is = refl; fit = fits-of s (x .row); many = y .0 }, told-item (nodeOf Array 0 0 n 0) g x (y .1))
+        go (refused k m) y = tt
+        go unfinished y = tt
+
+    rest-told : {h : Node} → Row s h → Headed s at h place → When Item (run (restP p 0 (stepOf h)) s lim place used)
+    rest-told (string a b l m) x = leaf-told (nodeOf SimpleString a b 0 0) refl refl x
+    rest-told (error a b l m) x = leaf-told (nodeOf SimpleError a b 0 0) refl refl x
+    rest-told (number w) x = leaf-told (nodeOf Number w 0 0 0) refl refl x
+    rest-told null x = leaf-told (nodeOf Null 0 0 0 0) refl refl x
+    rest-told (blob a b l m) x = leaf-told (nodeOf BlobString a b 0 0) refl refl x
+    rest-told (array n) x = array-told n x
+
+  frame-told : (d : ℕ) → Tells (Fitting s d) (frameP resp2 d)
+  frame-told zero lim at used = subst (When (λ f n u. Fitting s zero f × Told at f n)) (sym (frame-deep resp2 s lim at used)) tt
+  frame-told (suc d) lim at used = go (ltb used lim) refl (frame-told d)
+    where
+      Q : Forest → ℕ → ℕ → Type 0
+      Q f n u = Fitting s (suc d) f × Told at f n
+
+      rest : Tells (Fitting s d) (frameP resp2 d) → (o : Out Step) → When (Heads s lim at (used + 1)) o → When Q (then o (λ st n u. run (restP (frameP resp2 d) 0 st) s lim n u))
+      rest ih (done st n u) (h, e, x) = rw e (rest-told (frameP resp2 d) (Fitting s d) ih lim at n u (x .row) x)
+      rest ih (refused k n) x = tt
+      rest ih unfinished x = tt
+
+      go : (x : Bool) → ltb used lim ≡ x → Tells (Fitting s d) (frameP resp2 d) → When Q (run (frameP resp2 (suc d)) s lim at used)
+      go false e ih = subst (When Q) (sym (frame-full resp2 s lim at used d (ltb-false used lim e))) tt
+      go true e ih =
+          subst (When Q) (sym (frame-run s lim at used d (ltb-true used lim e))) (rest ih (run (typeP resp2 (headP resp2)) s lim at (used + 1)) (heads s lim at (used + 1)))
+
+-- ---- decode, then encode
+
+-- a list's front, by what stands behind it
+front-of : (l x : List ℕ) (n : ℕ) → l ≡ x ++ drop n l → take n l ≡ x
+front-of l x n e = go (leb n (length l)) refl
+  where
+    size : length l ≡ length x + (length l - n)
+    size = ap length e ∙ length-append x (drop n l) ∙ ap (λ (k : ℕ). length x + k) (length-drop n l)
+
+    go : (b : Bool) → leb n (length l) ≡ b → take n l ≡ x
+    go true q = ap (take n) e ∙ take-at x (drop n l) n (omega (arith, size, leb-true n (length l) q))
+    go false q =
+        let le : length l ≤ n = omega (arith, leb-false n (length l) q) in
+        take-all n l le ∙ e ∙ ap (λ (y : List ℕ). x ++ y) (drop-of-length-le l le) ∙ append-nil x
+
+-- what a decode that gave a frame has read: a frame of those words, up to n bytes behind the place
+frame-decoded : (d lim : ℕ) (s : List ℕ) (at n u : ℕ) (ws : List ℕ) → decode resp2 d lim s at ≡ frame n u ws
+    → (f : Forest) × (words f ≡ ws) × (u ≡ span f) × Fitting s d f × Told s at f (at + n)
+unfolding outcomeOf
+frame-decoded d lim s at n u ws e =
+    go (run (frameP resp2 d) s lim at 0) (frame-told s d lim at 0) (weighs-run span (frameP resp2 d) 0 (frame-fills resp2 d) s lim at 0) (starts (frameP resp2 d) s lim at 0)
+    (ap (outcomeOf at) (sym (unmarked-run resp2 d s lim at 0 plain) ∙ sym (decodeRun-is resp2 d lim s at)) ∙ sym (decode-is resp2 d lim s at) ∙ e)
+  where
+    plain : When (λ f m v. frameKind f ≡ Marker → ⊥) (run (frameP resp2 d) s lim at 0)
+    plain = gives-run (λ f. frameKind f ≡ Marker → ⊥) (frameP resp2 d) (frame-no-marker d) s lim at 0
+
+    given : (f : Forest) (m v : ℕ) → Fitting s d f × Told s at f m → v + 0 ≡ 0 + span f → at ≤ m → (b : Bool)
+        → pick b (marker (m - at) v (words f)) (frame (m - at) v (words f)) ≡ frame n u ws
+        → (f : Forest) × (words f ≡ ws) × (u ≡ span f) × Fitting s d f × Told s at f (at + n)
+    given f m v x rows from true q = let z : _≡_ {A = ℕ} 0 1 = cc in absurd (omega arith)
+    given f m v x rows from false q =
+        let bytes : m - at ≡ n = cc in
+        let used : v ≡ u = cc in
+        let place : m ≡ at + n = omega arith in
+        (f, (cc), omega arith, x .0, subst (Told s at f) place (x .1))
+
+    go : (o : Out Forest) → When (λ f m v. Fitting s d f × Told s at f m) o → When (λ f m v. v + 0 ≡ 0 + span f) o → (Settled o → at ≤ ends o)
+        → outcomeOf at o ≡ frame n u ws → (f : Forest) × (words f ≡ ws) × (u ≡ span f) × Fitting s d f × Told s at f (at + n)
+    go (done f m v) x rows from q = given f m v x rows (from tt) (eqb (frameKind f) Marker) q
+    go (refused k m) x rows from q = let z : _≡_ {A = ℕ} 0 1 = cc in absurd (omega arith)
+    go unfinished x rows from q = let z : _≡_ {A = ℕ} 0 1 = cc in absurd (omega arith)
+
+-- a table that starts with the words of a frame that fits has that frame
+top-is : (s t : List ℕ) (f : Forest) → Fitting s depthLimit f → span f ≤ rowsIn (length t) → take (length (words f)) t ≡ words f
+    → topIn resp2 s t ≡ got f (drop (length (words f)) (present t))
+unfolding topIn
+top-is s t f fit rows e =
+    let inside : length (words f) ≤ rowWidth * rowsIn (length t) = omega (arith, length-words f) in
+    let front : take (length (words f)) (present t) ≡ words f = take-take (length (words f)) (rowWidth * rowsIn (length t)) t inside ∙ e in
+    let whole : present t ≡ words f ++ drop (length (words f)) (present t) =
+    sym (take-append-drop (length (words f)) (present t)) ∙ ap (λ (x : List ℕ). x ++ drop (length (words f)) (present t)) front
+    in
+    ap (frameIn (rowFits resp2 s) childrenOf depthLimit) whole ∙ frame-in (rowFits resp2 s) childrenOf depthLimit f (drop (length (words f)) (present t)) fit
+
+module _ (lim : ℕ) (s t : List ℕ) (at n u : ℕ) (ws : List ℕ) (gave : decode resp2 depthLimit lim s at ≡ frame n u ws)
+    (rows : u ≤ rowsIn (length t)) (starts-with : take (length ws) t ≡ ws) where
+  -- Where a decode gave a frame, a table that starts with its rows has that frame, with the buffer as the source.
+  pub decode-encodable : (f : Forest) × (words f ≡ ws) × (topIn resp2 s t ≡ got f (drop (length ws) (present t)))
+  decode-encodable =
+      let x = frame-decoded depthLimit lim s at n u ws gave in
+      let f : Forest = x .0 in
+      let is : words f ≡ ws = x .1 in
+      (f, is, top-is s t f (x .3) (omega (arith, x .2)) (rw is starts-with) ∙ ap (λ (l : List ℕ). got f (drop (length l) (present t))) is)
+
+  -- Decode, then encode.
+  pub decode-encode : length s ≤ sourceLimit → (f : Forest) (r : List ℕ) → topIn resp2 s t ≡ got f r → spelled s at f ≡ true → encoding resp2 s t false ≡ able (take n (drop at s))
+  unfolding encoding
+  decode-encode short f r top sp =
+      let x = frame-decoded depthLimit lim s at n u ws gave in
+      let g : Forest = x .0 in
+      let read : topIn resp2 s t ≡ got g (drop (length (words g)) (present t)) = top-is s t g (x .3) (omega (arith, x .2)) (rw (x .1) starts-with) in
+      let one : f ≡ g = cc in
+      let told : drop at s ≡ encoded resp2 s false f ++ drop (at + n) s = rw one (x .4 .bytes (rw one at sp)) in
+      let bytes : take n (drop at s) ≡ encoded resp2 s false f =
+      front-of (drop at s) (encoded resp2 s false f) n (told ∙ ap (λ (y : List ℕ). encoded resp2 s false f ++ y) (sym (drop-drop n at s)))
+      in
+      rw (top, le-ltb sourceLimit (length s) short, bytes)
