@@ -12,31 +12,67 @@ use lib.IntN.{pos, negsuc}
 use lib.ListN.{length, take, drop, getD, take-append-drop, drop-of-length-le, length-append, length-take, length-drop}
 use lib.Seq.{drop-cons, drop-drop, take-all, take-take, take-at, drop-append-seam, take-append-seam, take-append-add}
 use lib.Dec.{ltb, leb, eqb}
-use borrow.Author.Tests.{eqb-true, eq-eqb, ne-eqb, le-leb, lt-ltb, leb-true, leb-false, ltb-true, ltb-false, le-ltb}
+use borrow.Author.Tests.{eqb-true, eq-eqb, ne-eqb, le-leb, leb-true, leb-false, ltb-true, ltb-false, le-ltb}
 use Rattle.meaning.specs.Choice.{pick}
-use Rattle.meaning.specs.Demand.{bytes, line, up, lineLen, serves}
+use Rattle.meaning.specs.Demand.{CR, LF, bytes, line, up, lineLen, serves}
 use Rattle.meaning.specs.DemandLaws.{some-inj, none≢some}
 use Rattle.meaning.specs.Prog.{Prog, ret, Out, done, refused, unfinished, run}
 use Rattle.meaning.specs.ProgLaws.{then, Gives, gives-run, When, weighs-run, Settled, ends, starts}
-use Rattle.meaning.specs.Text.{codes, same, isDigit, digitsFrom, digits, Num, plus, minus, plusOf, minusOf, signed, Length, count, minusOne, lengthOf}
+use Rattle.meaning.specs.Text.{codes, same, isDigit, digitsFrom, digits, Num, plus, minus, plusOf, minusOf, signed, Length, count, minusOne}
 use Rattle.meaning.specs.Kinds.{Profile, resp2, kindOf, lookup, typeByte, byteIn, hasChildren, SimpleString, SimpleError, Number, Null, BlobString, Array, Marker}
 use Rattle.meaning.specs.Rows.{Node, nodeOf, Forest, end, item, join, frameKind, span, words, rowWidth, mostRows, rowsIn}
-use Rattle.meaning.specs.RowsLaws.{join-end, span-join, words-join, length-words}
+use Rattle.meaning.specs.RowsLaws.{span-join, words-join, length-words}
 use Rattle.meaning.specs.Frames.{Step, leaf, holder, lineP, textLineP, numberP, numbered, sized, lengthFor, lengthP, bulkP, holderP, headP, framesP, restP, typeP, frameP, depthLimit}
 use Rattle.meaning.specs.Decode.{frame, marker, outcomeOf, decode}
 use Rattle.meaning.specs.FramesLaws.{frame-fills, frame-no-marker}
 use Rattle.meaning.specs.RunLaws.{ask-none, ask-some, bytes-there, bytes-short, type-there, type-short, mapOut, frames-none, next, frames-more, over, holder-run, array-holds, frame-deep, frame-full, frame-run, leaf-run, unmarked-run, decodeRun-is, decode-is}
-use Rattle.meaning.specs.Digits.{digitsOf, signedDigitsOf, signedWord, shown}
+use Rattle.meaning.specs.Digits.{digitsOf, signedDigitsOf, shown}
 use Rattle.meaning.specs.DigitLaws.{read-shown, read-plus, read-signed}
 use Rattle.meaning.specs.Tree.{Reading, unfit, got, andThen, framesIn, itemIn, frameIn}
 use Rattle.meaning.specs.Encode.{rowFits, childrenOf, present, topIn, crlf, lineFor, countFor, bulkFor, integerText, textIn, lineOf, encoded, able, unable, encodingOf, sourceLimit, encoding}
 use Rattle.meaning.specs.Trips.{isLine, hasText, Words64, Each, Clean, SameRow, Alike, neither, both, textFrom, placedRow, placed, lineAt, spelledRow, behindRow, behind, spelled}
+
+-- ---- tests and lists
+
+untrue : {X : Type 0} → true ≡ false → X
+untrue e = let z : _≡_ {A = ℕ} 1 0 = ap (λ (x : Bool). pick x 1 0) e in absurd (omega arith)
+
+and-split : (a b : Bool) → (a && b) ≡ true → (a ≡ true) × (b ≡ true)
+and-split true b e = (refl, e)
+and-split false b e = untrue (sym e)
+
+same-true : (a b : List ℕ) → same a b ≡ true → a ≡ b
+unfolding same
+same-true [] [] e = refl
+same-true [] (b ∷ t) e = untrue (sym e)
+same-true (a ∷ s) [] e = untrue (sym e)
+same-true (a ∷ s) (b ∷ t) e = let both = and-split (eqb a b) (same s t) e in rw (eqb-true a b (both .0), same-true s t (both .1))
+
+-- what stands behind the first bytes of those at a place
+past : (buf : List ℕ) (at : ℕ) (x rest : List ℕ) → drop at buf ≡ x ++ rest → drop (at + length x) buf ≡ rest
+past buf at x rest e = sym (drop-drop (length x) at buf) ∙ rw e (drop-append-seam x rest)
+
+-- a list's front, by what stands behind it
+front-of : (l x : List ℕ) (n : ℕ) → l ≡ x ++ drop n l → take n l ≡ x
+front-of l x n e = go (leb n (length l)) refl
+  where
+    size : length l ≡ length x + (length l - n)
+    size = ap length e ∙ length-append x (drop n l) ∙ ap (λ (k : ℕ). length x + k) (length-drop n l)
+
+    go : (b : Bool) → leb n (length l) ≡ b → take n l ≡ x
+    go true q = ap (take n) e ∙ take-at x (drop n l) n (omega (arith, size, leb-true n (length l) q))
+    go false q =
+        let le : length l ≤ n = omega (arith, leb-false n (length l) q) in
+        take-all n l le ∙ e ∙ ap (λ (y : List ℕ). x ++ y) (drop-of-length-le l le) ∙ append-nil x
 
 -- ---- rows read as frames
 
 words-item : (h : Node) (k : Forest) → words (item h k end) ≡ h .kind ∷ h .w1 ∷ h .w2 ∷ h .w3 ∷ (span k + 1) ∷ h .attribute ∷ words k
 unfolding words
 words-item h k = rw (append-nil (words k))
+
+unread : {X : Type 0} (f : Forest) (r : List ℕ) → unfit ≡ got f r → X
+unread f r e = let z : _≡_ {A = ℕ} 0 1 = cc in absurd (omega arith)
 
 -- n frames one after another, each of them P
 abbrev Many : (Forest → Type 0) → ℕ → Forest → Type 0
@@ -68,7 +104,7 @@ module _ (fits : Node → Bool) (kids : Node → ℕ) where
     where
       rest : (g : Forest) (q : List ℕ) → P g × (ws ≡ words g ++ q) → (o : Reading) → ((l : Forest) (j : List ℕ) → o ≡ got l j → Many P n l × (q ≡ words l ++ j))
           → andThen o (λ l j. got (join g l) j) ≡ got f r → Many P (suc n) f × (ws ≡ words f ++ r)
-      rest g q first unfit others h = let z : _≡_ {A = ℕ} 0 1 = cc in absurd (omega arith)
+      rest g q first unfit others h = unread f r h
       rest g q first (got l j) others h =
           let next = others l j refl in
           let whole : join g l ≡ f = cc in
@@ -77,8 +113,8 @@ module _ (fits : Node → Bool) (kids : Node → ℕ) where
 
       go : Reads (framesIn n p) (Many P n) → (o : Reading) → p ws ≡ o → andThen o (λ g q. andThen (framesIn n p q) (λ l j. got (join g l) j)) ≡ got f r
           → Many P (suc n) f × (ws ≡ words f ++ r)
-      go ih unfit e1 h = let z : _≡_ {A = ℕ} 0 1 = cc in absurd (omega arith)
-      go ih (got g q) e1 h = rest g q (each ws g q e1) (framesIn n p q) (ih q) h
+      go ih unfit read h = unread f r h
+      go ih (got g q) read h = rest g q (each ws g q read) (framesIn n p q) (ih q) h
 
   item-of : (P : Forest → Type 0) (k a b c sp w : ℕ) (ws : List ℕ) (f : Forest) (r : List ℕ) (o : Reading)
       → ((g : Forest) (q : List ℕ) → o ≡ got g q → Many P (kids (nodeOf k a b c w)) g × (ws ≡ words g ++ q))
@@ -94,16 +130,13 @@ module _ (fits : Node → Bool) (kids : Node → ℕ) where
           let whole : item h g end ≡ f = cc in
           let left : q ≡ r = cc in
           (record { top = h; below = g; is = sym whole; fit = fit; many = m .0 }, rw (m .1, left, ← whole, eqb-true sp (span g + 1) x, words-item h g))
-      spans g q fit m false x e = let z : _≡_ {A = ℕ} 0 1 = cc in absurd (omega arith)
+      spans g q fit m false x e = unread f r e
 
       go : (x : Bool) → fits h ≡ x → (o : Reading) → ((g : Forest) (q : List ℕ) → o ≡ got g q → Many P (kids h) g × (ws ≡ words g ++ q))
           → pick x (itemIn h sp o) unfit ≡ got f r → Over P f × ((k ∷ a ∷ b ∷ c ∷ sp ∷ w ∷ ws) ≡ words f ++ r)
-      go false x o below e = let z : _≡_ {A = ℕ} 0 1 = cc in absurd (omega arith)
-      go true x unfit below e = let z : _≡_ {A = ℕ} 0 1 = cc in absurd (omega arith)
+      go false x o below e = unread f r e
+      go true x unfit below e = unread f r e
       go true x (got g q) below e = spans g q x (below g q refl) (eqb sp (span g + 1)) refl e
-
-  unread : {X : Type 0} (f : Forest) (r : List ℕ) → unfit ≡ got f r → X
-  unread f r e = let z : _≡_ {A = ℕ} 0 1 = cc in absurd (omega arith)
 
   frame-of : (d : ℕ) → Reads (frameIn fits kids d) (Framed d)
   unfolding frameIn
@@ -135,10 +168,6 @@ module _ (fits : Node → Bool) (kids : Node → ℕ) where
 
 -- ---- rows that fit
 
-and-split : (a b : Bool) → (a && b) ≡ true → (a ≡ true) × (b ≡ true)
-and-split true b e = (refl, e)
-and-split false b e = let z : _≡_ {A = ℕ} 0 1 = ap (λ (x : Bool). pick x 1 0) e in absurd (omega arith)
-
 module _ (s : List ℕ) where
   -- by its kind
   data Row : Node → Type 0 where
@@ -153,7 +182,7 @@ module _ (s : List ℕ) where
   unfolding rowFits
   row-of k a b c w e =
       let both = and-split (eqb w 0) _ e in
-      rw (eqb-true w 0 (both .0)) (go (eqb k 1) (eqb k 2) (eqb k 7) (eqb k 3) (eqb k 6) refl refl refl refl refl (both .1))
+      rw (eqb-true w 0 (both .0)) (go (eqb k SimpleString) (eqb k SimpleError) (eqb k BlobString) (eqb k Number) (eqb k Null) refl refl refl refl refl (both .1))
     where
       inside : (leb a b && leb b (length s) && eqb c 0) ≡ true → (a ≤ b) × (b ≤ length s) × (c ≡ 0)
       inside t =
@@ -161,23 +190,23 @@ module _ (s : List ℕ) where
           let inner = and-split (leb a b) (leb b (length s)) (outer .0) in
           (leb-true a b (inner .0), leb-true b (length s) (inner .1), eqb-true c 0 (outer .1))
 
-      go : (x₁ x₂ x₇ x₃ x₆ : Bool) → eqb k 1 ≡ x₁ → eqb k 2 ≡ x₂ → eqb k 7 ≡ x₇ → eqb k 3 ≡ x₃ → eqb k 6 ≡ x₆
-          → pick (x₁ || x₂ || x₇) (leb a b && leb b (length s) && eqb c 0) (pick x₃ (eqb b 0 && eqb c 0) (pick x₆ (eqb a 0 && eqb b 0 && eqb c 0) (eqb k 13 && eqb a 0 && eqb b 0))) ≡ true
+      go : (x₁ x₂ x₇ x₃ x₆ : Bool) → eqb k SimpleString ≡ x₁ → eqb k SimpleError ≡ x₂ → eqb k BlobString ≡ x₇ → eqb k Number ≡ x₃ → eqb k Null ≡ x₆
+          → pick (x₁ || x₂ || x₇) (leb a b && leb b (length s) && eqb c 0) (pick x₃ (eqb b 0 && eqb c 0) (pick x₆ (eqb a 0 && eqb b 0 && eqb c 0) (eqb k Array && eqb a 0 && eqb b 0))) ≡ true
           → Row (nodeOf k a b c 0)
-      go true x₂ x₇ x₃ x₆ e₁ e₂ e₇ e₃ e₆ t = let l = inside t in rw (eqb-true k 1 e₁, l .2) (string a b (l .0) (l .1))
-      go false true x₇ x₃ x₆ e₁ e₂ e₇ e₃ e₆ t = let l = inside t in rw (eqb-true k 2 e₂, l .2) (error a b (l .0) (l .1))
-      go false false true x₃ x₆ e₁ e₂ e₇ e₃ e₆ t = let l = inside t in rw (eqb-true k 7 e₇, l .2) (blob a b (l .0) (l .1))
+      go true x₂ x₇ x₃ x₆ e₁ e₂ e₇ e₃ e₆ t = let l = inside t in rw (eqb-true k SimpleString e₁, l .2) (string a b (l .0) (l .1))
+      go false true x₇ x₃ x₆ e₁ e₂ e₇ e₃ e₆ t = let l = inside t in rw (eqb-true k SimpleError e₂, l .2) (error a b (l .0) (l .1))
+      go false false true x₃ x₆ e₁ e₂ e₇ e₃ e₆ t = let l = inside t in rw (eqb-true k BlobString e₇, l .2) (blob a b (l .0) (l .1))
       go false false false true x₆ e₁ e₂ e₇ e₃ e₆ t =
           let l = and-split (eqb b 0) (eqb c 0) t in
-          rw (eqb-true k 3 e₃, eqb-true b 0 (l .0), eqb-true c 0 (l .1)) (number a)
+          rw (eqb-true k Number e₃, eqb-true b 0 (l .0), eqb-true c 0 (l .1)) (number a)
       go false false false false true e₁ e₂ e₇ e₃ e₆ t =
           let l = and-split (eqb a 0 && eqb b 0) (eqb c 0) t in
           let m = and-split (eqb a 0) (eqb b 0) (l .0) in
-          rw (eqb-true k 6 e₆, eqb-true a 0 (m .0), eqb-true b 0 (m .1), eqb-true c 0 (l .1)) null
+          rw (eqb-true k Null e₆, eqb-true a 0 (m .0), eqb-true b 0 (m .1), eqb-true c 0 (l .1)) null
       go false false false false false e₁ e₂ e₇ e₃ e₆ t =
-          let l = and-split (eqb k 13 && eqb a 0) (eqb b 0) t in
-          let m = and-split (eqb k 13) (eqb a 0) (l .0) in
-          rw (eqb-true k 13 (m .0), eqb-true a 0 (m .1), eqb-true b 0 (l .1)) (array c)
+          let l = and-split (eqb k Array && eqb a 0) (eqb b 0) t in
+          let m = and-split (eqb k Array) (eqb a 0) (l .0) in
+          rw (eqb-true k Array (m .0), eqb-true a 0 (m .1), eqb-true b 0 (l .1)) (array c)
 
   fits-of : {h : Node} → Row h → rowFits resp2 s h ≡ true
   unfolding rowFits
@@ -197,36 +226,36 @@ module _ (s : List ℕ) where
 -- ---- texts without a line
 
 -- a text in which no line ends is the text of the line that CR LF make of it
-line-clean : (t rest : List ℕ) → lineLen t ≡ none → lineLen (t ++ 13 ∷ 10 ∷ rest) ≡ some (length t + 2)
+line-clean : (t rest : List ℕ) → lineLen t ≡ none → lineLen (t ++ (crlf ++ rest)) ≡ some (length t + 2)
 unfolding lineLen
 line-clean [] rest e = refl
-line-clean (a ∷ []) rest e = rw (and-false (eqb a 13))
-line-clean (a ∷ b ∷ t) rest e = go (eqb a 13 && eqb b 10) refl e (line-clean (b ∷ t) rest)
+line-clean (a ∷ []) rest e = rw (and-false (eqb a CR))
+line-clean (a ∷ b ∷ t) rest e = go (eqb a CR && eqb b LF) refl e (line-clean (b ∷ t) rest)
   where
     below : (o : Option ℕ) → up o ≡ none → o ≡ none
     below none q = refl
     below (some n) q = none≢some (sym q)
 
-    go : (x : Bool) → (eqb a 13 && eqb b 10) ≡ x → pick x (some 2) (up (lineLen (b ∷ t))) ≡ none
-        → (lineLen (b ∷ t) ≡ none → lineLen (b ∷ t ++ 13 ∷ 10 ∷ rest) ≡ some (length (b ∷ t) + 2))
-        → lineLen (a ∷ b ∷ t ++ 13 ∷ 10 ∷ rest) ≡ some (length (a ∷ b ∷ t) + 2)
+    go : (x : Bool) → (eqb a CR && eqb b LF) ≡ x → pick x (some 2) (up (lineLen (b ∷ t))) ≡ none
+        → (lineLen (b ∷ t) ≡ none → lineLen (b ∷ t ++ (crlf ++ rest)) ≡ some (length (b ∷ t) + 2))
+        → lineLen (a ∷ b ∷ t ++ (crlf ++ rest)) ≡ some (length (a ∷ b ∷ t) + 2)
     go true x q ih = none≢some (sym q)
     go false x q ih = rw (x, ih (below (lineLen (b ∷ t)) q)) (ap some (omega arith))
 
-clean-cons : (c : ℕ) (t : List ℕ) → (c ≡ 13 → ⊥) → lineLen t ≡ none → lineLen (c ∷ t) ≡ none
+clean-cons : (c : ℕ) (t : List ℕ) → (c ≡ CR → ⊥) → lineLen t ≡ none → lineLen (c ∷ t) ≡ none
 unfolding lineLen
 clean-cons c [] h e = refl
-clean-cons c (d ∷ t) h e = rw (ne-eqb c 13 h, e)
+clean-cons c (d ∷ t) h e = rw (ne-eqb c CR h, e)
 
 digits-clean : (t : List ℕ) (a n : ℕ) → digitsFrom a t ≡ some n → lineLen t ≡ none
 unfolding digitsFrom lineLen
 digits-clean [] a n e = refl
-digits-clean (c ∷ t) a n e = go (isDigit c) refl e (digits-clean t (a * 10 + (c - 48)) n)
+digits-clean (c ∷ t) a n e = go (isDigit c) refl e (digits-clean t (a * 10 + (c - code "0")) n)
   where
-    go : (x : Bool) → isDigit c ≡ x → pick x (digitsFrom (a * 10 + (c - 48)) t) none ≡ some n → (digitsFrom (a * 10 + (c - 48)) t ≡ some n → lineLen t ≡ none)
+    go : (x : Bool) → isDigit c ≡ x → pick x (digitsFrom (a * 10 + (c - code "0")) t) none ≡ some n → (digitsFrom (a * 10 + (c - code "0")) t ≡ some n → lineLen t ≡ none)
         → lineLen (c ∷ t) ≡ none
     go false x q ih = none≢some q
-    go true x q ih = clean-cons c t (λ (z : c ≡ 13). let b : false ≡ true = rw z at x in let o : _≡_ {A = ℕ} 0 1 = cc in omega arith) (ih q)
+    go true x q ih = clean-cons c t (λ (z : c ≡ CR). let b : false ≡ true = rw z at x in let o : _≡_ {A = ℕ} 0 1 = cc in omega arith) (ih q)
 
 -- nothing that is read as a number ends a line
 number-clean : (t : List ℕ) (z : Num) → signed t ≡ some z → lineLen t ≡ none
@@ -235,42 +264,40 @@ number-clean [] z e = absurd (no-number z e)
   where
     no-number : (z : Num) → none ≡ some z → ⊥
     no-number z q = let o : _≡_ {A = ℕ} 0 1 = cc in omega arith
-number-clean (c ∷ t) z e = go (eqb c 43) (eqb c 45) refl refl e
+number-clean (c ∷ t) z e = go (eqb c (code "+")) (eqb c (code "-")) refl refl e
   where
     plain : (l : List ℕ) (o : Option ℕ) → digits l ≡ o → (plusOf o ≡ some z → lineLen l ≡ none) × (minusOf o ≡ some z → lineLen l ≡ none)
     plain [] o q = (λ h. refl, λ h. refl)
     plain (d ∷ l) none q = (λ h. let o : _≡_ {A = ℕ} 0 1 = cc in absurd (omega arith), λ h. let o : _≡_ {A = ℕ} 0 1 = cc in absurd (omega arith))
     plain (d ∷ l) (some n) q = (λ h. digits-clean (d ∷ l) 0 n q, λ h. digits-clean (d ∷ l) 0 n q)
 
-    go : (x y : Bool) → eqb c 43 ≡ x → eqb c 45 ≡ y → pick x (plusOf (digits t)) (pick y (minusOf (digits t)) (plusOf (digits (c ∷ t)))) ≡ some z → lineLen (c ∷ t) ≡ none
-    go true y p q h = clean-cons c t (λ r. omega (arith, eqb-true c 43 p)) (plain t (digits t) refl .0 h)
-    go false true p q h = clean-cons c t (λ r. omega (arith, eqb-true c 45 q)) (plain t (digits t) refl .1 h)
+    go : (x y : Bool) → eqb c (code "+") ≡ x → eqb c (code "-") ≡ y → pick x (plusOf (digits t)) (pick y (minusOf (digits t)) (plusOf (digits (c ∷ t)))) ≡ some z → lineLen (c ∷ t) ≡ none
+    go true y p q h = clean-cons c t (λ r. omega (arith, eqb-true c (code "+") p)) (plain t (digits t) refl .0 h)
+    go false true p q h = clean-cons c t (λ r. omega (arith, eqb-true c (code "-") q)) (plain t (digits t) refl .1 h)
     go false false p q h = plain (c ∷ t) (digits (c ∷ t)) refl .0 h
 
 -- ---- the runs of what stands at a place
 
-module _ (buf : List ℕ) (lim at used : ℕ) where
-  past : (x rest : List ℕ) → drop at buf ≡ x ++ rest → drop (at + length x) buf ≡ rest
-  past x rest e = sym (drop-drop (length x) at buf) ∙ rw e (drop-append-seam x rest)
+-- the text of a line that was handed over
+cut : (l t rest : List ℕ) → l ≡ t ++ (crlf ++ rest) → take (length (take (length t + 2) l) - 2) (take (length t + 2) l) ≡ t
+cut l t rest e =
+    let whole : take (length t + 2) l ≡ t ++ crlf = rw e (take-append-add t (crlf ++ rest) 2) in
+    let size : length (t ++ crlf) - 2 ≡ length t = omega (arith, length-append t crlf) in
+    rw (whole, size) (take-append-seam t crlf)
 
+module _ (buf : List ℕ) (lim at used : ℕ) where
   type-at : {A : Type 0} (π : Profile) (f : ℕ → Prog A) (b : ℕ) (rest : List ℕ) → drop at buf ≡ b ∷ rest
       → run (typeP π f) buf lim at used ≡ run (f (kindOf π b)) buf lim (at + 1) used
   unfolding serves
   type-at π f b rest e =
       ask-some buf lim at used (bytes 1) (λ c. f (kindOf π (getD c 0 0))) 1 (rw (e, le-leb 1 (length (b ∷ rest)) (omega arith))) ∙ rw e
 
-  cut : (t rest : List ℕ) → drop at buf ≡ t ++ 13 ∷ 10 ∷ rest → take (length (take (length t + 2) (drop at buf)) - 2) (take (length t + 2) (drop at buf)) ≡ t
-  cut t rest e =
-      let whole : take (length t + 2) (drop at buf) ≡ t ++ 13 ∷ 10 ∷ [] = rw e (take-append-add t (13 ∷ 10 ∷ rest) 2) in
-      let size : length (t ++ 13 ∷ 10 ∷ []) - 2 ≡ length t = omega (arith, length-append t (13 ∷ 10 ∷ [])) in
-      rw (whole, size) (take-append-seam t (13 ∷ 10 ∷ []))
-
-  line-at : {A : Type 0} (f : List ℕ → Prog A) (t rest : List ℕ) → lineLen t ≡ none → drop at buf ≡ t ++ 13 ∷ 10 ∷ rest
+  line-at : {A : Type 0} (f : List ℕ → Prog A) (t rest : List ℕ) → lineLen t ≡ none → drop at buf ≡ t ++ (crlf ++ rest)
       → run (lineP f) buf lim at used ≡ run (f t) buf lim (at + (length t + 2)) used
   unfolding serves
   line-at f t rest c e =
       ask-some buf lim at used line (λ c. f (take (length c - 2) c)) (length t + 2) (rw (e, line-clean t rest c))
-      ∙ ap (λ (l : List ℕ). run (f l) buf lim (at + (length t + 2)) used) (cut t rest e)
+      ∙ ap (λ (l : List ℕ). run (f l) buf lim (at + (length t + 2)) used) (cut (drop at buf) t rest e)
 
 -- ---- heads read back
 
@@ -279,12 +306,12 @@ line-head : (buf : List ℕ) (lim at used k b : ℕ) (f : List ℕ → Prog Step
     → run (headP resp2 k) buf lim (at + 1) used ≡ run (lineP f) buf lim (at + 1) used → lineLen t ≡ none → drop at buf ≡ (b ∷ (t ++ crlf)) ++ rest
     → run (typeP resp2 (headP resp2)) buf lim at used ≡ run (f t) buf lim (at + length (b ∷ (t ++ crlf))) used
 line-head buf lim at used k b f t rest kind head clean e =
-    let there : drop at buf ≡ b ∷ (t ++ 13 ∷ 10 ∷ rest) = e ∙ ap (λ (l : List ℕ). b ∷ l) (append-assoc t crlf rest) in
+    let there : drop at buf ≡ b ∷ (t ++ (crlf ++ rest)) = e ∙ ap (λ (l : List ℕ). b ∷ l) (append-assoc t crlf rest) in
     let size : at + 1 + (length t + 2) ≡ at + length (b ∷ (t ++ crlf)) = omega (arith, length-append t crlf) in
-    type-at buf lim at used resp2 (headP resp2) b (t ++ 13 ∷ 10 ∷ rest) there
+    type-at buf lim at used resp2 (headP resp2) b (t ++ (crlf ++ rest)) there
     ∙ ap (λ (j : ℕ). run (headP resp2 j) buf lim (at + 1) used) kind
     ∙ head
-    ∙ line-at buf lim (at + 1) used f t rest clean (past buf lim at used (b ∷ []) (t ++ 13 ∷ 10 ∷ rest) there)
+    ∙ line-at buf lim (at + 1) used f t rest clean (past buf at (b ∷ []) (t ++ (crlf ++ rest)) there)
     ∙ ap (λ (n : ℕ). run (f t) buf lim n used) size
 
 -- the digits of a word are read as that word
@@ -314,7 +341,7 @@ blob-back buf lim at used t rest small e =
     let first : List ℕ = countFor resp2 BlobString (length t) in
     let from : ℕ = at + length first in
     let there : drop at buf ≡ first ++ ((t ++ crlf) ++ rest) = e ∙ append-assoc first (t ++ crlf) rest in
-    let left : length (drop from buf) ≡ length ((t ++ crlf) ++ rest) = ap length (past buf lim at used first ((t ++ crlf) ++ rest) there) in
+    let left : length (drop from buf) ≡ length ((t ++ crlf) ++ rest) = ap length (past buf at first ((t ++ crlf) ++ rest) there) in
     let inside : length t + 2 ≤ length buf - from = omega (arith, length-drop from buf, length-append (t ++ crlf) rest, length-append t crlf) in
     let size : from + (length t + 2) ≡ at + length (first ++ (t ++ crlf)) = omega (arith, length-append first (t ++ crlf), length-append t crlf) in
     line-head buf lim at used BlobString (code "$") (λ l. sized resp2 BlobString (bulkP resp2 BlobString) (lengthFor resp2 BlobString l)) (shown (digitsOf (length t)))
@@ -328,9 +355,9 @@ stepOf h = pick (hasChildren (h .kind)) (holder (h .kind) (h .w3)) (leaf (h .kin
 
 module _ (s : List ℕ) where
   -- what a row must keep to, to be read back
-  pub record Back (h : Node) : Type 0 where
-    pub clean : isLine (h .kind) ≡ true → lineLen (textIn s h) ≡ none
-    pub word : h .w1 < 2 ^ 64
+  record Back (h : Node) : Type 0 where
+    clean : isLine (h .kind) ≡ true → lineLen (textIn s h) ≡ none
+    word : h .w1 < 2 ^ 64
 
   module _ (small : length s < 2 ^ 63) (buf : List ℕ) (lim at used : ℕ) (rest : List ℕ) where
     head-back : {h : Node} → Row s h → Back h → h .w3 < 2 ^ 63 → drop at buf ≡ lineOf resp2 s false h ++ rest
@@ -358,6 +385,9 @@ module _ (s : List ℕ) where
         ∙ rw z
 
 -- ---- frames read back
+
+abbrev Plain : Forest → Type 0
+Plain f = frameKind f ≡ Marker → ⊥
 
 module _ (s : List ℕ) where
   abbrev bytesOf : Forest → List ℕ
@@ -392,7 +422,7 @@ module _ (s : List ℕ) where
   each-join P end g h = (tt, h)
   each-join P (item n k r) g h = let rest = each-join P r g (h .2) in ((h .0, h .1, rest .0), rest .1)
 
-  frames-back : (p : Prog Forest) (P : Forest → Type 0) → Gives (λ f. frameKind f ≡ Marker → ⊥) p → ((f : Forest) → P f → Each (Back s) f → ReadsBack p f)
+  frames-back : (p : Prog Forest) (P : Forest → Type 0) → Gives Plain p → ((f : Forest) → P f → Each (Back s) f → ReadsBack p f)
       → (n : ℕ) (g : Forest) → Many P n g → Each (Back s) g → ReadsBack (framesP n p) g
   unfolding encoded placed span
   frames-back p P plain each zero g e ok buf lim at used rest q room small =
@@ -401,14 +431,14 @@ module _ (s : List ℕ) where
       let oks = each-join (Back s) f l (subst (Each (Back s)) e ok) in
       let spans : span g ≡ span f + span l = ap span e ∙ span-join f l in
       let there : drop at buf ≡ bytesOf f ++ (bytesOf l ++ rest) = q ∙ ap (λ (x : Forest). bytesOf x ++ rest) e ∙ rw (encoded-join f l, append-assoc (bytesOf f) (bytesOf l) rest) in
-      let next : drop (at + length (bytesOf f)) buf ≡ bytesOf l ++ rest = past buf lim at used (bytesOf f) (bytesOf l ++ rest) there in
+      let next : drop (at + length (bytesOf f)) buf ≡ bytesOf l ++ rest = past buf at (bytesOf f) (bytesOf l ++ rest) there in
       let one : run p buf lim at used ≡ done (placed s at f) (at + length (bytesOf f)) (used + span f) =
       each f first (oks .0) buf lim at used (bytesOf l ++ rest) there (omega arith) (omega arith)
       in
       let more : run (framesP n p) buf lim (at + length (bytesOf f)) (used + span f) ≡ done (placed s (at + length (bytesOf f)) l) (at + length (bytesOf f) + length (bytesOf l)) (used + span f + span l) =
       frames-back p P plain each n l others (oks .1) buf lim (at + length (bytesOf f)) (used + span f) rest next (omega arith) (omega arith)
       in
-      let kind : frameKind (placed s at f) ≡ Marker → ⊥ = subst (When (λ f n u. frameKind f ≡ Marker → ⊥)) one (gives-run (λ f. frameKind f ≡ Marker → ⊥) p plain buf lim at used) in
+      let kind : Plain (placed s at f) = subst (When (λ f n u. Plain f)) one (gives-run Plain p plain buf lim at used) in
       let size : at + length (bytesOf f) + length (bytesOf l) ≡ at + length (bytesOf f ++ bytesOf l) = omega (arith, length-append (bytesOf f) (bytesOf l)) in
       let rows : used + span f + span l ≡ used + (span f + span l) = omega arith in
       frames-more p buf lim at used n ∙ rw (one, ne-eqb (frameKind (placed s at f)) Marker kind, more, e, placed-join at f l, encoded-join f l, span-join f l, size, rows)
@@ -478,7 +508,7 @@ module _ (s : List ℕ) where
       let head : run (typeP resp2 (headP resp2)) buf lim at (used + 1) ≡ done (stepOf (placedRow at (h .top))) place (used + 1) =
       head-back s long buf lim at (used + 1) (bytesOf k ++ rest) row (oks .0) (omega arith) there
       in
-      let next : drop place buf ≡ bytesOf k ++ rest = past buf lim at used own (bytesOf k ++ rest) there in
+      let next : drop place buf ≡ bytesOf k ++ rest = past buf at own (bytesOf k ++ rest) there in
       let size : place + length (bytesOf k) ≡ at + length (bytesOf f) = omega (arith, ap length all, length-append own (bytesOf k)) in
       let rows : used + 1 + span k ≡ used + span f = omega arith in
       let below : run (restP (frameP resp2 d) 0 (stepOf (placedRow at (h .top)))) buf lim place (used + 1)
@@ -489,9 +519,6 @@ module _ (s : List ℕ) where
       frame-run buf lim at used d (omega arith) ∙ rw (head, below, size, rows, h .is)
 
 -- ---- the same frame
-
-untrue : {X : Type 0} → true ≡ false → X
-untrue e = let z : _≡_ {A = ℕ} 1 0 = ap (λ (x : Bool). pick x 1 0) e in absurd (omega arith)
 
 module _ (s buf : List ℕ) where
   -- a text that stands in the buffer, and any other row
@@ -515,7 +542,7 @@ module _ (s buf : List ℕ) where
 
   -- behind a type byte
   behind-type : (b at : ℕ) (t rest : List ℕ) → drop at buf ≡ (b ∷ (t ++ crlf)) ++ rest → drop (at + 1) buf ≡ t ++ (crlf ++ rest)
-  behind-type b at t rest e = past buf 0 at 0 (b ∷ []) (t ++ (crlf ++ rest)) (e ∙ ap (λ (x : List ℕ). b ∷ x) (append-assoc t crlf rest))
+  behind-type b at t rest e = past buf at (b ∷ []) (t ++ (crlf ++ rest)) (e ∙ ap (λ (x : List ℕ). b ∷ x) (append-assoc t crlf rest))
 
   row-alike : {h : Node} → Row s h → (at : ℕ) (rest : List ℕ) → drop at buf ≡ lineOf resp2 s false h ++ rest → SameRow s buf h (placedRow at h)
   unfolding lineOf placedRow textFrom
@@ -527,7 +554,7 @@ module _ (s buf : List ℕ) where
       let t : List ℕ = take (b - a) (drop a s) in
       let first : List ℕ = countFor resp2 BlobString (length t) in
       let there : drop (at + length first) buf ≡ t ++ (crlf ++ rest) =
-      past buf 0 at 0 first (t ++ (crlf ++ rest)) (e ∙ append-assoc first (t ++ crlf) rest ∙ ap (λ (x : List ℕ). first ++ x) (append-assoc t crlf rest))
+      past buf at first (t ++ (crlf ++ rest)) (e ∙ append-assoc first (t ++ crlf) rest ∙ ap (λ (x : List ℕ). first ++ x) (append-assoc t crlf rest))
       in
       text-same BlobString a b (at + length (countFor resp2 BlobString (b - a))) rest refl m
       (subst (λ (n : ℕ). drop (at + length (countFor resp2 BlobString n)) buf ≡ t ++ (crlf ++ rest)) (text-length s a b m) there)
@@ -541,10 +568,16 @@ module _ (s buf : List ℕ) where
       let below : List ℕ = encoded resp2 s false k in
       let others : List ℕ = encoded resp2 s false r in
       let there : drop at buf ≡ own ++ (below ++ (others ++ rest)) = e ∙ append-assoc own (below ++ others) rest ∙ ap (λ (x : List ℕ). own ++ x) (append-assoc below others rest) in
-      let under : drop (at + length own) buf ≡ below ++ (others ++ rest) = past buf 0 at 0 own (below ++ (others ++ rest)) there in
-      let next : drop (at + length own + length below) buf ≡ others ++ rest = past buf 0 (at + length own) 0 below (others ++ rest) under in
+      let under : drop (at + length own) buf ≡ below ++ (others ++ rest) = past buf at own (below ++ (others ++ rest)) there in
+      let next : drop (at + length own + length below) buf ≡ others ++ rest = past buf (at + length own) below (others ++ rest) under in
       both (row-alike (ok .0) at (below ++ (others ++ rest)) there) (placed-alike k (ok .1) (at + length own) (others ++ rest) under)
       (placed-alike r (ok .2) (at + length own + length below) rest next)
+
+-- such frames have the same spans
+pub alike-span : {s t : List ℕ} {f g : Forest} → Alike s t f g → span g ≡ span f
+unfolding span
+alike-span neither = refl
+alike-span (both h k r) = rw (alike-span k, alike-span r)
 
 -- ---- encode, then decode
 
@@ -598,14 +631,21 @@ able-of s t b flag f r e h = go (ltb sourceLimit (length s)) refl h
     go true x q = let z : _≡_ {A = ℕ} 0 1 = cc in absurd (omega arith)
     go false x q = (ltb-false sourceLimit (length s) x, let z : able (encoded resp2 s flag f) ≡ able b = rw e at q in cc)
 
--- the frame of a table: it fits, and its words are the first of the rows present
+able-is : (s t : List ℕ) (flag : Bool) (f : Forest) (r : List ℕ) → topIn resp2 s t ≡ got f r → length s ≤ sourceLimit → encoding resp2 s t flag ≡ able (encoded resp2 s flag f)
+unfolding encoding
+able-is s t flag f r e h = rw (e, le-ltb sourceLimit (length s) h)
+
+-- the frame of a table: it fits, and its words are the first of those present
 top-of : (s t : List ℕ) (f : Forest) (r : List ℕ) → topIn resp2 s t ≡ got f r → Fitting s depthLimit f × (present t ≡ words f ++ r)
 unfolding topIn
 top-of s t f r e = frame-of (rowFits resp2 s) childrenOf depthLimit (present t) f r e
 
-top-span : (s t : List ℕ) (f : Forest) (r : List ℕ) → topIn resp2 s t ≡ got f r → span f ≤ mostRows
+pub top-words : (s t : List ℕ) (f : Forest) (r : List ℕ) → topIn resp2 s t ≡ got f r → present t ≡ words f ++ r
+top-words s t f r e = top-of s t f r e .1
+
+pub top-span : (s t : List ℕ) (f : Forest) (r : List ℕ) → topIn resp2 s t ≡ got f r → span f ≤ mostRows
 top-span s t f r e =
-    let whole : length (present t) ≡ length (words f) + length r = ap length (top-of s t f r e .1) ∙ length-append (words f) r in
+    let whole : length (present t) ≡ length (words f) + length r = ap length (top-words s t f r e) ∙ length-append (words f) r in
     let rows : length (present t) ≤ rowWidth * mostRows = simp length-take (omega arith) in
     omega (arith, length-words f)
 
@@ -622,8 +662,8 @@ module _ (s t b : List ℕ) (f : Forest) (r : List ℕ) (able-b : encoding resp2
       let back : run (frameP resp2 depthLimit) buf lim at 0 ≡ done (placed s at f) (at + length (encoded resp2 s false f)) (0 + span f) =
       frame-back s (omega arith) depthLimit f (fits .0) (rows-back s f clean words-f) buf lim at 0 more (there ∙ ap (λ (x : List ℕ). x ++ more) (o .1)) (omega arith) (omega arith)
       in
-      let kind = gives-run (λ f. frameKind f ≡ Marker → ⊥) (frameP resp2 depthLimit) (frame-no-marker depthLimit) buf lim at 0 in
-      let plain : frameKind (placed s at f) ≡ Marker → ⊥ = subst (When (λ f n u. frameKind f ≡ Marker → ⊥)) back kind in
+      let kind = gives-run Plain (frameP resp2 depthLimit) (frame-no-marker depthLimit) buf lim at 0 in
+      let plain : Plain (placed s at f) = subst (When (λ f n u. Plain f)) back kind in
       let size : at + length (encoded resp2 s false f) - at ≡ length b = omega (arith, ap length (o .1)) in
       let rows : 0 + span f ≡ span f = omega arith in
       decode-is resp2 depthLimit lim buf at
@@ -644,25 +684,18 @@ module _ (s t b : List ℕ) (f : Forest) (r : List ℕ) (able-b : encoding resp2
 
 -- ---- lines that are there
 
-same-true : (a b : List ℕ) → same a b ≡ true → a ≡ b
-unfolding same
-same-true [] [] e = refl
-same-true [] (b ∷ t) e = untrue (sym e)
-same-true (a ∷ s) [] e = untrue (sym e)
-same-true (a ∷ s) (b ∷ t) e = let both = and-split (eqb a b) (same s t) e in rw (eqb-true a b (both .0), same-true s t (both .1))
-
 line-split : (l : List ℕ) (n : ℕ) → lineLen l ≡ some n → (t : List ℕ) × (l ≡ t ++ (crlf ++ drop n l)) × (n ≡ length t + 2)
 unfolding lineLen
 line-split [] n e = none≢some e
 line-split (a ∷ []) n e = none≢some e
-line-split (a ∷ b ∷ l) n e = go (eqb a 13 && eqb b 10) refl (lineLen (b ∷ l)) (line-split (b ∷ l)) e
+line-split (a ∷ b ∷ l) n e = go (eqb a CR && eqb b LF) refl (lineLen (b ∷ l)) (line-split (b ∷ l)) e
   where
-    go : (x : Bool) → (eqb a 13 && eqb b 10) ≡ x → (o : Option ℕ) → ((m : ℕ) → o ≡ some m → (t : List ℕ) × (b ∷ l ≡ t ++ (crlf ++ drop m (b ∷ l))) × (m ≡ length t + 2))
+    go : (x : Bool) → (eqb a CR && eqb b LF) ≡ x → (o : Option ℕ) → ((m : ℕ) → o ≡ some m → (t : List ℕ) × (b ∷ l ≡ t ++ (crlf ++ drop m (b ∷ l))) × (m ≡ length t + 2))
         → pick x (some 2) (up o) ≡ some n → (t : List ℕ) × (a ∷ b ∷ l ≡ t ++ (crlf ++ drop n (a ∷ b ∷ l))) × (n ≡ length t + 2)
     go true x o ih q =
         let two : 2 ≡ n = some-inj q in
-        let ends = and-split (eqb a 13) (eqb b 10) x in
-        ([], rw (← two, eqb-true a 13 (ends .0), eqb-true b 10 (ends .1)), sym two)
+        let ends = and-split (eqb a CR) (eqb b LF) x in
+        ([], rw (← two, eqb-true a CR (ends .0), eqb-true b LF (ends .1)), sym two)
     go false x none ih q = none≢some q
     go false x (some m) ih q =
         let more : suc m ≡ n = some-inj q in
@@ -701,24 +734,25 @@ when-line P s lim at used f each = go (lineLen (drop at s)) refl
         let l = line-split (drop at s) n e in
         let o = line-there s at n (l .0) e (l .1) (l .2) in
         let text : take (length (take n (drop at s)) - 2) (take n (drop at s)) ≡ l .0 =
-        ap (λ (m : ℕ). take (length (take m (drop at s)) - 2) (take m (drop at s))) (l .2) ∙ cut s lim at used (l .0) (drop (at + n) s) (o .bytes)
+        ap (λ (m : ℕ). take (length (take m (drop at s)) - 2) (take m (drop at s))) (l .2) ∙ cut (drop at s) (l .0) (drop (at + n) s) (o .bytes)
         in
         subst (When P) (sym (ask-some s lim at used line (λ c. f (take (length c - 2) c)) n e ∙ ap (λ (t : List ℕ). run (f t) s lim (at + n) used) text)) (each (l .0) (at + n) o)
 
 -- ---- heads that were read
 
 -- in RESP2 a type byte and its kind
-kind2-cases : (P : ℕ → ℕ → Type 0) → ((b : ℕ) → P b 0) → P 43 1 → P 45 2 → P 58 3 → P 36 7 → P 42 13 → (b : ℕ) → P b (kindOf resp2 b)
+kind2-cases : (P : ℕ → ℕ → Type 0) → ((b : ℕ) → P b 0) → P (code "+") SimpleString → P (code "-") SimpleError → P (code ":") Number → P (code "$") BlobString → P (code "*") Array
+    → (b : ℕ) → P b (kindOf resp2 b)
 unfolding kindOf lookup
-kind2-cases P other one two three seven thirteen b = go (eqb 43 b) (eqb 45 b) (eqb 58 b) (eqb 36 b) (eqb 42 b) refl refl refl refl refl
+kind2-cases P other one two three seven thirteen b =
+    each (code "+") SimpleString one (each (code "-") SimpleError two (each (code ":") Number three (each (code "$") BlobString seven (each (code "*") Array thirteen (other b)))))
   where
-    go : (x₁ x₂ x₃ x₇ x₁₃ : Bool) → eqb 43 b ≡ x₁ → eqb 45 b ≡ x₂ → eqb 58 b ≡ x₃ → eqb 36 b ≡ x₇ → eqb 42 b ≡ x₁₃ → P b (pick x₁ 1 (pick x₂ 2 (pick x₃ 3 (pick x₇ 7 (pick x₁₃ 13 0)))))
-    go true x₂ x₃ x₇ x₁₃ e₁ e₂ e₃ e₇ e₁₃ = subst (λ (c : ℕ). P c 1) (eqb-true 43 b e₁) one
-    go false true x₃ x₇ x₁₃ e₁ e₂ e₃ e₇ e₁₃ = subst (λ (c : ℕ). P c 2) (eqb-true 45 b e₂) two
-    go false false true x₇ x₁₃ e₁ e₂ e₃ e₇ e₁₃ = subst (λ (c : ℕ). P c 3) (eqb-true 58 b e₃) three
-    go false false false true x₁₃ e₁ e₂ e₃ e₇ e₁₃ = subst (λ (c : ℕ). P c 7) (eqb-true 36 b e₇) seven
-    go false false false false true e₁ e₂ e₃ e₇ e₁₃ = subst (λ (c : ℕ). P c 13) (eqb-true 42 b e₁₃) thirteen
-    go false false false false false e₁ e₂ e₃ e₇ e₁₃ = other b
+    either : (c k : ℕ) {j : ℕ} → P c k → P b j → (x : Bool) → eqb c b ≡ x → P b (pick x k j)
+    either c k p q true e = subst (λ (d : ℕ). P d k) (eqb-true c b e) p
+    either c k p q false e = q
+
+    each : (c k : ℕ) {j : ℕ} → P c k → P b j → P b (pick (eqb c b) k j)
+    each c k p q = either c k p q (eqb c b) refl
 
 -- the bytes of a row with a text
 line-text : (s : List ℕ) (k a b : ℕ) → isLine k ≡ true → lineOf resp2 s false (nodeOf k a b 0 0) ≡ lineFor resp2 k (take (b - a) (drop a s))
@@ -779,8 +813,8 @@ module _ (s : List ℕ) (at : ℕ) where
       row = null;
       ends = line-ends (nodeOf Null 0 0 0 0) refl;
       bytes = λ z.
-          let both = and-split (eqb (getD s at 0) 36) (same (lineAt s (at + 1)) (codes "-1")) z in
-          line-bytes ∙ rw (sym byte ∙ eqb-true (getD s at 0) 36 (both .0), sym (o .is) ∙ same-true (lineAt s (at + 1)) (codes "-1") (both .1));
+          let both = and-split (eqb (getD s at 0) (code "$")) (same (lineAt s (at + 1)) (codes "-1")) z in
+          line-bytes ∙ rw (sym byte ∙ eqb-true (getD s at 0) (code "$") (both .0), sym (o .is) ∙ same-true (lineAt s (at + 1)) (codes "-1") (both .1));
     }
 
     blob-headed : (m : ℕ) → b ≡ code "$" → n + (m + 2) ≤ length s → Headed (nodeOf BlobString n (n + m) 0 0) (n + (m + 2))
@@ -874,11 +908,11 @@ module _ (s : List ℕ) (lim at used : ℕ) where
   unfolding run headP typeByte byteIn
   kind-heads = kind2-cases (λ b k. drop at s ≡ b ∷ drop (at + 1) s → getD s at 0 ≡ b → When Heads (run (headP resp2 k) s lim (at + 1) used))
       (λ b e q. tt)
-      (λ e q. text-heads 43 e q SimpleString refl refl refl refl string)
-      (λ e q. text-heads 45 e q SimpleError refl refl refl refl error)
-      (λ e q. number-heads 58 e q refl)
-      (λ e q. blob-heads 36 e q refl)
-      (λ e q. array-heads 42 e q refl)
+      (λ e q. text-heads (code "+") e q SimpleString refl refl refl refl string)
+      (λ e q. text-heads (code "-") e q SimpleError refl refl refl refl error)
+      (λ e q. number-heads (code ":") e q refl)
+      (λ e q. blob-heads (code "$") e q refl)
+      (λ e q. array-heads (code "*") e q refl)
 
   heads : When Heads (run (typeP resp2 (headP resp2)) s lim at used)
   heads = go (ltb at (length s)) refl
@@ -1011,19 +1045,6 @@ module _ (s : List ℕ) where
 
 -- ---- decode, then encode
 
--- a list's front, by what stands behind it
-front-of : (l x : List ℕ) (n : ℕ) → l ≡ x ++ drop n l → take n l ≡ x
-front-of l x n e = go (leb n (length l)) refl
-  where
-    size : length l ≡ length x + (length l - n)
-    size = ap length e ∙ length-append x (drop n l) ∙ ap (λ (k : ℕ). length x + k) (length-drop n l)
-
-    go : (b : Bool) → leb n (length l) ≡ b → take n l ≡ x
-    go true q = ap (take n) e ∙ take-at x (drop n l) n (omega (arith, size, leb-true n (length l) q))
-    go false q =
-        let le : length l ≤ n = omega (arith, leb-false n (length l) q) in
-        take-all n l le ∙ e ∙ ap (λ (y : List ℕ). x ++ y) (drop-of-length-le l le) ∙ append-nil x
-
 -- what a decode that gave a frame has read: a frame of those words, up to n bytes behind the place
 frame-decoded : (d lim : ℕ) (s : List ℕ) (at n u : ℕ) (ws : List ℕ) → decode resp2 d lim s at ≡ frame n u ws
     → (f : Forest) × (words f ≡ ws) × (u ≡ span f) × Fitting s d f × Told s at f (at + n)
@@ -1032,8 +1053,8 @@ frame-decoded d lim s at n u ws e =
     go (run (frameP resp2 d) s lim at 0) (frame-told s d lim at 0) (weighs-run span (frameP resp2 d) 0 (frame-fills resp2 d) s lim at 0) (starts (frameP resp2 d) s lim at 0)
     (ap (outcomeOf at) (sym (unmarked-run resp2 d s lim at 0 plain) ∙ sym (decodeRun-is resp2 d lim s at)) ∙ sym (decode-is resp2 d lim s at) ∙ e)
   where
-    plain : When (λ f m v. frameKind f ≡ Marker → ⊥) (run (frameP resp2 d) s lim at 0)
-    plain = gives-run (λ f. frameKind f ≡ Marker → ⊥) (frameP resp2 d) (frame-no-marker d) s lim at 0
+    plain : When (λ f m v. Plain f) (run (frameP resp2 d) s lim at 0)
+    plain = gives-run Plain (frameP resp2 d) (frame-no-marker d) s lim at 0
 
     given : (f : Forest) (m v : ℕ) → Fitting s d f × Told s at f m → v + 0 ≡ 0 + span f → at ≤ m → (b : Bool)
         → pick b (marker (m - at) v (words f)) (frame (m - at) v (words f)) ≡ frame n u ws
@@ -1075,7 +1096,6 @@ module _ (lim : ℕ) (s t : List ℕ) (at n u : ℕ) (ws : List ℕ) (gave : dec
 
   -- Decode, then encode.
   pub decode-encode : length s ≤ sourceLimit → (f : Forest) (r : List ℕ) → topIn resp2 s t ≡ got f r → spelled s at f ≡ true → encoding resp2 s t false ≡ able (take n (drop at s))
-  unfolding encoding
   decode-encode short f r top sp =
       let x = frame-decoded depthLimit lim s at n u ws gave in
       let g : Forest = x .0 in
@@ -1085,4 +1105,4 @@ module _ (lim : ℕ) (s t : List ℕ) (at n u : ℕ) (ws : List ℕ) (gave : dec
       let bytes : take n (drop at s) ≡ encoded resp2 s false f =
       front-of (drop at s) (encoded resp2 s false f) n (told ∙ ap (λ (y : List ℕ). encoded resp2 s false f ++ y) (sym (drop-drop n at s)))
       in
-      rw (top, le-ltb sourceLimit (length s) short, bytes)
+      able-is s t false f r top short ∙ ap able (sym bytes)

@@ -1,6 +1,6 @@
 -- What the round trips speak of: texts that a line can hold, frames that are the same but for where their texts stand, and bytes that are spelled as the encoder spells.
 use mathlib.Core.Path.{_≡_}
-use mathlib.Core.List.{List, []}
+use mathlib.Core.List.{List}
 use mathlib.Core.Bool.{Bool, true, false, _&&_, _||_}
 use mathlib.Core.Option.{Option, none, some}
 use Prim.Native.Nat.{ℕ, _+_, _-_, _^_, _≤_, _<_}
