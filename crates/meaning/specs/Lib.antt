@@ -15,6 +15,7 @@ pub mod Trips
 pub mod Samples
 pub mod RuleSamples
 pub mod Cells
+pub mod TripSamples
 pub mod DemandLaws
 pub mod ProgLaws
 pub mod KindsLaws
