@@ -30,6 +30,7 @@ use Rattle.meaning.specs.Digits.{digitsOf, signedDigitsOf, shown}
 use Rattle.meaning.specs.DigitLaws.{read-shown, read-plus, read-signed}
 use Rattle.meaning.specs.Tree.{Reading, unfit, got, andThen, framesIn, itemIn, frameIn}
 use Rattle.meaning.specs.Encode.{rowFits, childrenOf, present, topIn, crlf, lineFor, countFor, bulkFor, integerText, textIn, lineOf, encoded, able, unable, encodingOf, sourceLimit, encoding}
+use Rattle.meaning.specs.EncodeLaws.{encoded-join, encoded-item}
 use Rattle.meaning.specs.Trips.{isLine, hasText, Words64, Each, Clean, SameRow, Alike, neither, both, textFrom, placedRow, placed, lineAt, spelledRow, behindRow, behind, spelled}
 
 -- ---- tests and lists
@@ -47,6 +48,9 @@ same-true [] [] e = refl
 same-true [] (b ∷ t) e = untrue (sym e)
 same-true (a ∷ s) [] e = untrue (sym e)
 same-true (a ∷ s) (b ∷ t) e = let both = and-split (eqb a b) (same s t) e in rw (eqb-true a b (both .0), same-true s t (both .1))
+
+length-text : (s : List ℕ) (a b : ℕ) → b ≤ length s → length (take (b - a) (drop a s)) ≡ b - a
+length-text s a b h = simp (length-take, length-drop) (omega arith)
 
 -- what stands behind the first bytes of those at a place
 past : (buf : List ℕ) (at : ℕ) (x rest : List ℕ) → drop at buf ≡ x ++ rest → drop (at + length x) buf ≡ rest
@@ -220,9 +224,6 @@ module _ (s : List ℕ) where
   row-fits : (h : Node) → rowFits resp2 s h ≡ true → Row h
   row-fits h e = row-of (h .kind) (h .w1) (h .w2) (h .w3) (h .attribute) e
 
-  text-length : (a b : ℕ) → b ≤ length s → length (take (b - a) (drop a s)) ≡ b - a
-  text-length a b h = simp (length-take, length-drop) (omega arith)
-
 -- ---- texts without a line
 
 -- a text in which no line ends is the text of the line that CR LF make of it
@@ -365,10 +366,10 @@ module _ (s : List ℕ) where
     unfolding run headP kindOf lookup typeByte byteIn lineOf textFrom placedRow codes lineLen
     head-back (string a b l m) g few e =
         line-head buf lim at used SimpleString (code "+") (λ t. ret (leaf SimpleString (at + 1) (at + 1 + length t) 0)) (take (b - a) (drop a s)) rest refl refl (g .clean refl) e
-        ∙ rw (text-length s a b m)
+        ∙ rw (length-text s a b m)
     head-back (error a b l m) g few e =
         line-head buf lim at used SimpleError (code "-") (λ t. ret (leaf SimpleError (at + 1) (at + 1 + length t) 0)) (take (b - a) (drop a s)) rest refl refl (g .clean refl) e
-        ∙ rw (text-length s a b m)
+        ∙ rw (length-text s a b m)
     head-back (number w) g few e =
         let z = word-back w (g .word) in
         line-head buf lim at used Number (code ":") (λ t. numbered (signed t)) (integerText w) rest refl refl (number-clean (integerText w) (z .0) (z .1)) e
@@ -376,7 +377,7 @@ module _ (s : List ℕ) where
     head-back null g few e =
         line-head buf lim at used BlobString (code "$") (λ t. sized resp2 BlobString (bulkP resp2 BlobString) (lengthFor resp2 BlobString t)) (codes "-1") rest refl refl refl e
     head-back (blob a b l m) g few e =
-        let size : length (take (b - a) (drop a s)) ≡ b - a = text-length s a b m in
+        let size : length (take (b - a) (drop a s)) ≡ b - a = length-text s a b m in
         blob-back buf lim at used (take (b - a) (drop a s)) rest (omega arith) e ∙ rw size
     head-back (array n) g few e =
         let z = count-back n few in
@@ -392,15 +393,6 @@ Plain f = frameKind f ≡ Marker → ⊥
 module _ (s : List ℕ) where
   abbrev bytesOf : Forest → List ℕ
   bytesOf f = encoded resp2 s false f
-
-  encoded-join : (f g : Forest) → bytesOf (join f g) ≡ bytesOf f ++ bytesOf g
-  unfolding encoded join
-  encoded-join end g = refl
-  encoded-join (item h k r) g = rw (encoded-join r g, append-assoc (lineOf resp2 s false h) (bytesOf k ++ bytesOf r) (bytesOf g), append-assoc (bytesOf k) (bytesOf r) (bytesOf g))
-
-  encoded-item : (h : Node) (k : Forest) → bytesOf (item h k end) ≡ lineOf resp2 s false h ++ bytesOf k
-  unfolding encoded
-  encoded-item h k = rw (append-nil (bytesOf k))
 
   placed-join : (at : ℕ) (f g : Forest) → placed s at (join f g) ≡ join (placed s at f) (placed s (at + length (bytesOf f)) g)
   unfolding placed encoded join
@@ -430,7 +422,7 @@ module _ (s : List ℕ) where
   frames-back p P plain each (suc n) g (f, l, e, first, others) ok buf lim at used rest q room small =
       let oks = each-join (Back s) f l (subst (Each (Back s)) e ok) in
       let spans : span g ≡ span f + span l = ap span e ∙ span-join f l in
-      let there : drop at buf ≡ bytesOf f ++ (bytesOf l ++ rest) = q ∙ ap (λ (x : Forest). bytesOf x ++ rest) e ∙ rw (encoded-join f l, append-assoc (bytesOf f) (bytesOf l) rest) in
+      let there : drop at buf ≡ bytesOf f ++ (bytesOf l ++ rest) = q ∙ ap (λ (x : Forest). bytesOf x ++ rest) e ∙ rw (encoded-join resp2 s false f l, append-assoc (bytesOf f) (bytesOf l) rest) in
       let next : drop (at + length (bytesOf f)) buf ≡ bytesOf l ++ rest = past buf at (bytesOf f) (bytesOf l ++ rest) there in
       let one : run p buf lim at used ≡ done (placed s at f) (at + length (bytesOf f)) (used + span f) =
       each f first (oks .0) buf lim at used (bytesOf l ++ rest) there (omega arith) (omega arith)
@@ -441,7 +433,7 @@ module _ (s : List ℕ) where
       let kind : Plain (placed s at f) = subst (When (λ f n u. Plain f)) one (gives-run Plain p plain buf lim at used) in
       let size : at + length (bytesOf f) + length (bytesOf l) ≡ at + length (bytesOf f ++ bytesOf l) = omega (arith, length-append (bytesOf f) (bytesOf l)) in
       let rows : used + span f + span l ≡ used + (span f + span l) = omega arith in
-      frames-more p buf lim at used n ∙ rw (one, ne-eqb (frameKind (placed s at f)) Marker kind, more, e, placed-join at f l, encoded-join f l, span-join f l, size, rows)
+      frames-more p buf lim at used n ∙ rw (one, ne-eqb (frameKind (placed s at f)) Marker kind, more, e, placed-join at f l, encoded-join resp2 s false f l, span-join f l, size, rows)
 
   -- frames that fit in RESP2, with so much depth left
   abbrev Fitting : ℕ → Forest → Type 0
@@ -503,7 +495,7 @@ module _ (s : List ℕ) where
       let oks : Each (Back s) (item (h .top) k end) = subst (Each (Back s)) (h .is) ok in
       let spans : span f ≡ span k + 0 + 1 = ap span (h .is) in
       let few : h .top .w3 ≤ span k = few-back row (many-span d (childrenOf (h .top)) k (h .many)) in
-      let all : bytesOf f ≡ own ++ bytesOf k = ap bytesOf (h .is) ∙ encoded-item (h .top) k in
+      let all : bytesOf f ≡ own ++ bytesOf k = ap bytesOf (h .is) ∙ encoded-item resp2 s false (h .top) k in
       let there : drop at buf ≡ own ++ (bytesOf k ++ rest) = q ∙ rw (all, append-assoc own (bytesOf k) rest) in
       let head : run (typeP resp2 (headP resp2)) buf lim at (used + 1) ≡ done (stepOf (placedRow at (h .top))) place (used + 1) =
       head-back s long buf lim at (used + 1) (bytesOf k ++ rest) row (oks .0) (omega arith) there
@@ -525,7 +517,7 @@ module _ (s buf : List ℕ) where
   text-same : (k a b from : ℕ) (rest : List ℕ) → hasText k ≡ true → b ≤ length s → drop from buf ≡ take (b - a) (drop a s) ++ (crlf ++ rest)
       → SameRow s buf (nodeOf k a b 0 0) (nodeOf k from (from + (b - a)) 0 0)
   text-same k a b from rest kind m e =
-      let size : length (take (b - a) (drop a s)) ≡ b - a = text-length s a b m in
+      let size : length (take (b - a) (drop a s)) ≡ b - a = length-text s a b m in
       let whole : from + (b - a) - from ≡ b - a = omega arith in
       let left : length (drop from buf) ≡ length (take (b - a) (drop a s)) + length (crlf ++ rest) = ap length e ∙ length-append (take (b - a) (drop a s)) (crlf ++ rest) in
       let inside : from + (b - a) ≤ length buf = omega (arith, length-drop from buf) in
@@ -557,7 +549,7 @@ module _ (s buf : List ℕ) where
       past buf at first (t ++ (crlf ++ rest)) (e ∙ append-assoc first (t ++ crlf) rest ∙ ap (λ (x : List ℕ). first ++ x) (append-assoc t crlf rest))
       in
       text-same BlobString a b (at + length (countFor resp2 BlobString (b - a))) rest refl m
-      (subst (λ (n : ℕ). drop (at + length (countFor resp2 BlobString n)) buf ≡ t ++ (crlf ++ rest)) (text-length s a b m) there)
+      (subst (λ (n : ℕ). drop (at + length (countFor resp2 BlobString n)) buf ≡ t ++ (crlf ++ rest)) (length-text s a b m) there)
   row-alike (array n) at rest e = value-same (nodeOf Array 0 0 n 0) refl
 
   placed-alike : (f : Forest) → Each (Row s) f → (at : ℕ) (rest : List ℕ) → drop at buf ≡ encoded resp2 s false f ++ rest → Alike s buf f (placed s at f)
@@ -953,7 +945,7 @@ module _ (s : List ℕ) where
     bytes = λ z.
         let both = and-split (spelled s at f) (spelled s (behind s at f) g) (sym (spelled-join at f g) ∙ z) in
         let next : drop n s ≡ encoded resp2 s false g ++ drop m s = y .bytes (ap (λ (k : ℕ). spelled s k g) (sym (x .ends)) ∙ both .1) in
-        x .bytes (both .0) ∙ rw (next, encoded-join s f g, append-assoc (encoded resp2 s false f) (encoded resp2 s false g) (drop m s));
+        x .bytes (both .0) ∙ rw (next, encoded-join resp2 s false f g, append-assoc (encoded resp2 s false f) (encoded resp2 s false g) (drop m s));
   }
 
   told-item : {at n m : ℕ} (h : Node) (g : Forest) → Headed s at h n → Told n g m → Told at (item h g end) m
@@ -964,7 +956,7 @@ module _ (s : List ℕ) where
         let outer = and-split (spelledRow s at h && spelled s (behindRow s at h) g) true z in
         let both = and-split (spelledRow s at h) (spelled s (behindRow s at h) g) (outer .0) in
         let next : drop n s ≡ encoded resp2 s false g ++ drop m s = y .bytes (ap (λ (k : ℕ). spelled s k g) (sym (x .ends)) ∙ both .1) in
-        x .bytes (both .0) ∙ rw (next, encoded-item s h g, append-assoc (lineOf resp2 s false h) (encoded resp2 s false g) (drop m s));
+        x .bytes (both .0) ∙ rw (next, encoded-item resp2 s false h g, append-assoc (lineOf resp2 s false h) (encoded resp2 s false g) (drop m s));
   }
 
   -- what a program reads is so, and each frame P
