@@ -612,7 +612,17 @@ rows-back s (item n k r) c h =
     let rest = all-split (words k) (words r) (h .1 .1 .1 .1 .1 .1) in
     (record { clean = c .0; word = h .1 .0 }, rows-back s k (c .1) (rest .0), rows-back s r (c .2) (rest .1))
 
--- what an encoding says: the source is not too long, and the bytes are those of the frame that the table has
+-- what has an encoding has a frame
+pub able-frame : (s t b : List ℕ) (flag : Bool) → encoding resp2 s t flag ≡ able b → (f : Forest) × (r : List ℕ) × (topIn resp2 s t ≡ got f r)
+unfolding encoding
+able-frame s t b flag h = go (ltb sourceLimit (length s)) (topIn resp2 s t) refl h
+  where
+    go : (x : Bool) (o : Reading) → topIn resp2 s t ≡ o → pick x (unable 14) (encodingOf resp2 s flag o) ≡ able b → (f : Forest) × (r : List ℕ) × (topIn resp2 s t ≡ got f r)
+    go true o e q = let z : _≡_ {A = ℕ} 0 1 = cc in absurd (omega arith)
+    go false unfit e q = let z : _≡_ {A = ℕ} 0 1 = cc in absurd (omega arith)
+    go false (got f r) e q = (f, r, e)
+
+-- the source is then not too long, and the bytes are those of the frame
 able-of : (s t b : List ℕ) (flag : Bool) (f : Forest) (r : List ℕ) → topIn resp2 s t ≡ got f r → encoding resp2 s t flag ≡ able b
     → (length s ≤ sourceLimit) × (b ≡ encoded resp2 s flag f)
 unfolding encoding
