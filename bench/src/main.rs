@@ -1,6 +1,5 @@
 //! Times our library, the crate and hiredis on the same bytes in one run, and measures the stack that a decode takes.
 
-#[cfg(feature = "encode")]
 mod encode;
 mod hiredis;
 mod stack;
@@ -211,10 +210,7 @@ fn stacks(works: &[Work]) {
                 black_box(f(bytes, table));
             })
         };
-        #[cfg(feature = "encode")]
-        let encode = encode::stack(bytes).to_string();
-        #[cfg(not(feature = "encode"))]
-        let encode = "–";
+        let encode = encode::stack(bytes);
         println!(
             "| {name} | {} | {} | {} | {} | {encode} |",
             decode(imrazgul::resp2_decode),
@@ -240,9 +236,6 @@ fn main() {
     println!("the input is unfinished also the making and freeing of the reader. – means that it does not give the answer: hiredis");
     println!("0.14 refuses nesting over 7.\n");
     decoders(&works, millis);
-    #[cfg(feature = "encode")]
     encode::run(&works, millis);
-    #[cfg(not(feature = "encode"))]
-    println!("\nEncode: the library has no resp2 encoder yet.");
     stacks(&works);
 }

@@ -5,7 +5,7 @@ mod cells;
 mod decode;
 #[cfg(feature = "ours")]
 mod digits;
-#[cfg(feature = "encode")]
+#[cfg(feature = "ours")]
 mod encode;
 #[cfg_attr(not(feature = "ours"), allow(dead_code))]
 mod generate;
@@ -40,13 +40,6 @@ impl Keys {
     }
 }
 
-/// Ends where a mode needs a call that the library does not have.
-#[cfg(all(feature = "ours", not(feature = "encode")))]
-fn absent(mode: &str, what: &str) -> ! {
-    eprintln!("{mode}: the library has no {what} yet");
-    std::process::exit(2);
-}
-
 fn mode(name: &str, keys: &Keys) -> Option<bool> {
     #[cfg(feature = "ours")]
     {
@@ -55,10 +48,7 @@ fn mode(name: &str, keys: &Keys) -> Option<bool> {
             "resp2" => return Some(decode::run(Protocol::Resp2, keys)),
             "resp3" => return Some(decode::run(Protocol::Resp3, keys)),
             "stream" => return Some(decode::run(Protocol::Stream, keys)),
-            #[cfg(feature = "encode")]
             "encode" => return Some(encode::run(keys)),
-            #[cfg(not(feature = "encode"))]
-            "encode" => absent(name, "resp2 encoder"),
             "digits" => return Some(digits::run(keys)),
             _ => {}
         }

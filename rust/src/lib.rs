@@ -1,5 +1,4 @@
-//! Safe calls of the decoder and encoder that `rt staticlib imrazgul` builds; the feature names calls that a
-//! library may not have yet.
+//! Safe calls of the decoders and the encoder that `rt staticlib imrazgul` builds.
 //!
 //! A table is lent by the caller: 6 words a row, at most 4,096 rows. docs/RULES.md, 1.2, has the meaning of its words.
 #![no_std]
@@ -16,7 +15,6 @@ pub struct Decoded {
 }
 
 /// What an encode gives back. Refusal 0: `bytes` were written, or are needed; 12: `bytes` are needed.
-#[cfg(feature = "encode")]
 #[repr(C)]
 #[derive(Clone, Copy, Debug, PartialEq, Eq)]
 pub struct Encoded {
@@ -46,7 +44,6 @@ impl Decoded {
     }
 }
 
-#[cfg(feature = "encode")]
 impl Encoded {
     /// The bytes written or needed, or the refusal. 12 holds the length needed.
     #[inline]
@@ -59,15 +56,12 @@ impl Encoded {
 }
 
 mod raw {
-    use super::Decoded;
-    #[cfg(feature = "encode")]
-    use super::Encoded;
+    use super::{Decoded, Encoded};
 
     extern "C" {
         pub fn imrazgul_resp2_decode(src: *const u8, src_len: usize, table: *mut u64, words: usize) -> Decoded;
         pub fn imrazgul_resp3_decode(src: *const u8, src_len: usize, table: *mut u64, words: usize) -> Decoded;
         pub fn imrazgul_resp3_stream(src: *const u8, src_len: usize, table: *mut u64, words: usize) -> Decoded;
-        #[cfg(feature = "encode")]
         pub fn imrazgul_resp2_encode(
             src: *const u8,
             src_len: usize,
@@ -77,7 +71,6 @@ mod raw {
             out: *mut u8,
             out_len: usize,
         ) -> Encoded;
-        #[cfg(feature = "encode")]
         pub fn imrazgul_resp2_length(
             src: *const u8,
             src_len: usize,
@@ -112,7 +105,6 @@ pub fn resp3_stream(src: &[u8], table: &mut [u64]) -> Decoded {
 }
 
 /// Writes the RESP2 frame that `table` describes to the front of `out`.
-#[cfg(feature = "encode")]
 #[inline]
 pub fn resp2_encode(src: &[u8], table: &[u64], ints_as_bulk: bool, out: &mut [u8]) -> Encoded {
     unsafe {
@@ -129,7 +121,6 @@ pub fn resp2_encode(src: &[u8], table: &[u64], ints_as_bulk: bool, out: &mut [u8
 }
 
 /// The bytes that `resp2_encode` needs.
-#[cfg(feature = "encode")]
 #[inline]
 pub fn resp2_length(src: &[u8], table: &[u64], ints_as_bulk: bool) -> Encoded {
     unsafe { raw::imrazgul_resp2_length(src.as_ptr(), src.len(), table.as_ptr(), table.len(), ints_as_bulk) }

@@ -68,10 +68,8 @@ fn p6_a_blob_with_any_trailer() {
     assert_eq!(decode(resp2_decode, b"$?\r\n"), (refused(2), words(&[])));
 }
 
-#[cfg(feature = "encode")]
 const P13: [u64; 18] = [13, 0, 0, 2, 3, 0, 3, 7, 0, 0, 1, 0, 6, 0, 0, 0, 1, 0];
 
-#[cfg(feature = "encode")]
 #[test]
 fn p13_encode_an_array() {
     let mut out = [b'.'; 20];
@@ -88,7 +86,6 @@ fn p13_encode_an_array() {
     assert_eq!(resp2_length(&[], &smallest, true).result(), Ok(27));
 }
 
-#[cfg(feature = "encode")]
 #[test]
 fn encode_takes_text_from_its_source() {
     let mut out = [b'.'; 12];
