@@ -1,5 +1,5 @@
-/* Counts the instructions that a call of our decoders takes, from its first to its return: with the trap flag set the
- * processor traps after each, and the traps are counted. The counts are the same at each run, on a processor and under
+/* Counts the instructions that a call of our decoders or the encoder takes, from its first to its return: with the trap
+ * flag set the processor traps after each, and the traps are counted. The counts are the same at each run, on a processor and under
  * an emulator. bench/instructions compiles and runs it.
  *
  * The inputs are those that bench/src/work.rs makes. Each word of the command line is a file of more, decoded one frame
@@ -24,6 +24,7 @@ static const struct {
     {"imrazgul_resp2_decode", imrazgul_resp2_decode},
     {"imrazgul_resp3_decode", imrazgul_resp3_decode},
     {"imrazgul_resp3_stream", imrazgul_resp3_stream},
+    {"imrazgul_resp2_encode", NULL},
 };
 
 /* ---- counting ---- */
@@ -53,8 +54,55 @@ static struct imrazgul_decoded trap_each(decoder *decode, const uint8_t *src, si
 /* By a pointer, so that the compiler makes no copy of it for one decoder. */
 static struct imrazgul_decoded (*volatile trapped)(decoder *, const uint8_t *, size_t) = trap_each;
 
-/* Decodes one frame after another, and prints the instructions of a call. */
+typedef struct imrazgul_encoded encoder(const uint8_t *src, size_t src_len, const uint64_t *table, size_t words,
+                                        bool ints_as_bulk, uint8_t *out, size_t out_len);
+
+static uint8_t written[4 << 20];
+
+/* The same for an encoder. */
+__asm__(".pushsection .text\ntwo_instructions_more: movq %rdi, %rax\nret\n.popsection\n");
+encoder two_instructions_more;
+
+static struct imrazgul_encoded trap_encode(encoder *encode, const uint8_t *src, size_t bytes) {
+    traps = 0;
+    __asm__ volatile("pushfq; orq $0x100, (%%rsp); popfq" ::: "memory", "cc");
+    struct imrazgul_encoded said = encode(src, bytes, table, 6 * ROWS, false, written, sizeof written);
+    __asm__ volatile("pushfq; andq $~0x100, (%%rsp); popfq" ::: "memory", "cc");
+    return said;
+}
+
+static struct imrazgul_encoded (*volatile trapped_encode)(encoder *, const uint8_t *, size_t) = trap_encode;
+
+/* Decodes one frame after another and encodes each again, and prints the instructions of an encode. */
+static void count_encode(const char *name, const char *input, size_t bytes) {
+    const uint8_t *src = (const uint8_t *)input;
+    trapped_encode(two_instructions_more, src, bytes);
+    unsigned long around = traps - 2, sum = 0, calls = 0;
+    for (size_t at = 0; at < bytes;) {
+        struct imrazgul_decoded frame = imrazgul_resp2_decode(src + at, bytes - at, table, 6 * ROWS);
+        if (frame.answer != IMRAZGUL_FRAME) {
+            return;
+        }
+        struct imrazgul_encoded said = trapped_encode(imrazgul_resp2_encode, src + at, bytes - at);
+        sum += traps - around;
+        calls++;
+        if (said.refusal != 0 || said.bytes != frame.consumed) {
+            printf("| %s | not its own bytes |\n", name);
+            return;
+        }
+        at += frame.consumed;
+    }
+    if (calls != 0) {
+        printf("| %s | %lu | %lu | %lu | written |\n", name, (unsigned long)bytes, calls, (sum + calls / 2) / calls);
+    }
+}
+
+/* Decodes one frame after another, and prints the instructions of a call. No decoder: the encoder's are counted. */
 static void count(decoder *decode, const char *name, const char *input, size_t bytes) {
+    if (decode == NULL) {
+        count_encode(name, input, bytes);
+        return;
+    }
     const uint8_t *src = (const uint8_t *)input;
     trapped(two_instructions, src, bytes);
     unsigned long around = traps - 2, sum = 0, calls = 0;
