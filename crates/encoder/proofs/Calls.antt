@@ -2,7 +2,7 @@
 use mathlib.Core.Path.{_≡_, refl, sym, ap, subst, _∙_}
 use mathlib.Core.List.{List}
 use mathlib.Core.Bool.{Bool, true, false}
-use Prim.Native.Nat.{ℕ, _+_, _*_, _≤_, _<_}
+use Prim.Native.Nat.{ℕ, _*_, _≤_, _<_}
 use native.Mathlib.Omega.{arith}
 use lib.Dec.{ltb}
 use lib.ListN.{length, take}
@@ -12,7 +12,7 @@ use Rattle.meaning.specs.Kinds.{resp2}
 use Rattle.meaning.specs.Rows.{Forest, rowWidth, rowsIn}
 use Rattle.meaning.specs.Tree.{Reading, unfit, got}
 use Rattle.meaning.specs.Frames.{depthLimit}
-use Rattle.meaning.specs.Encode.{rowsRead, present, topIn, encoded, Encoding, unable, able, encodingOf, sourceLimit, encoding, short, written, within, encode}
+use Rattle.meaning.specs.Encode.{rowsRead, topIn, encoded, Encoding, unable, able, encodingOf, sourceLimit, encoding, short, written, within, encode}
 use Rattle.kinds.specs.Entries.{IsColumns}
 use Rattle.encoder.specs.Reads.{Lent, measuredOf, Room, Wrote}
 use Rattle.encoder.specs.Encodes.{sizeOf, Encodes, writtenOf, outputAfter}

@@ -12,10 +12,9 @@ use Rattle.meaning.specs.TreeLaws.{took, Loop, loop-start, loop-unfit, loop-end
 use Rattle.meaning.specs.Encode.{rowFits, childrenOf, rowsRead, lineOf, encoded, sourceLimit}
 use Rattle.meaning.specs.EncodeLaws.{lineMost, length-encoded-join, length-encoded-item, line-most, encoded-most}
 use Rattle.rows.specs.declared.Row.{Row}
-use Rattle.rows.specs.Put.{rowAt, nodeIn}
-use Rattle.encoder.specs.Reads.{Lent, measuredOf}
-use Rattle.encoder.proofs.Steps.{Stands, below, row-unfit, below-unfit, span-unfit, frame-got}
-use Rattle.encoder.specs.declared.measure.Measured.{Measured}
+use Rattle.rows.specs.Put.{nodeIn}
+use Rattle.encoder.specs.Reads.{measuredOf}
+use Rattle.encoder.proofs.Steps.{Stands, below, below-unfit, span-unfit, frame-got}
 use Rattle.encoder.specs.declared.measure.Measured.the-variants.{To, Unfit}
 
 module _ (s : List ℕ) (flag : Bool) (row : ℕ) where

@@ -1,16 +1,16 @@
 -- A frame's reading, step by step as the code goes: its depth, its row, the frames beneath it, its span.
-use mathlib.Core.Path.{_≡_, refl, sym, ap, _∙_}
+use mathlib.Core.Path.{_≡_, sym, ap, _∙_}
 use mathlib.Core.List.{List}
-use mathlib.Core.Bool.{Bool, true, false}
+use mathlib.Core.Bool.{true, false}
 use Prim.Native.Nat.{ℕ, suc, _+_, _-_, _*_, _≤_, _<_}
 use native.Mathlib.Omega.{arith}
 use lib.ListN.{length, drop}
 use borrow.Author.Tests.{eq-eqb, ne-eqb}
 use Rattle.meaning.specs.Choice.{pick}
 use Rattle.meaning.specs.Kinds.{resp2}
-use Rattle.meaning.specs.Rows.{Node, Forest, end, item, span, rowWidth}
+use Rattle.meaning.specs.Rows.{Forest, end, item, span, rowWidth}
 use Rattle.meaning.specs.Tree.{Reading, unfit, got, framesIn, itemIn}
-use Rattle.meaning.specs.TreeLaws.{nodeAt, frame-deep, row-none, row-there}
+use Rattle.meaning.specs.TreeLaws.{frame-deep, row-none, row-there}
 use Rattle.meaning.specs.Encode.{rowFits, childrenOf, rowsRead}
 use Rattle.rows.specs.declared.Row.{Row}
 use Rattle.rows.specs.Put.{rowAt, nodeIn}

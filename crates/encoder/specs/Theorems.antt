@@ -1,13 +1,17 @@
 -- What the promises of the length query and of an encode give together: one is the other's length, and what stays of the output.
 use mathlib.Core.Path.{_≡_, sym, ap, _∙_}
 use mathlib.Core.List.{List}
-use mathlib.Core.Bool.{Bool}
+use mathlib.Core.Bool.{Bool, true, false}
+use mathlib.Core.Logic.{_⊎_, inl, inr}
 use Prim.Native.Nat.{ℕ, _≤_, _<_}
 use native.Mathlib.Omega.{arith}
 use lib.ListN.{length, getD}
+use lib.Dec.{ltb}
 use borrow.Author.Tests.{le-leb, lt-leb}
+use Rattle.meaning.specs.Choice.{pick}
 use Rattle.meaning.specs.Kinds.{resp2}
-use Rattle.meaning.specs.Encode.{Encoding, unable, able, Encoded, encoding, short, written, within, encode}
+use Rattle.meaning.specs.Tree.{Reading, unfit, got}
+use Rattle.meaning.specs.Encode.{topIn, Encoding, unable, able, encodingOf, sourceLimit, encoding, Encoded, short, written, within, encode}
 use Rattle.rows.specs.RowLaws.{getD-past}
 use Rattle.encoder.specs.Encodes.{sizeOf, writtenOf, outputAfter, Encodes}
 use Rattle.encoder.specs.declared.Size.{Size}
@@ -26,6 +30,16 @@ of-bytes (able b) e = (b, cc, cc)
 of-refusal : (x : Encoding) {k : ℕ} → Size.Refused k ≡ sizeOf x → x ≡ unable k
 of-refusal (unable j) e = cc
 of-refusal (able b) e = let z : _≡_ {A = ℕ} 0 1 = cc in absurd (omega arith)
+
+-- a refusal of theirs is 13 or 14
+pub refusal-number : (s t : List ℕ) (flag : Bool) {k : ℕ} → Size.Refused k ≡ sizeOf (encoding resp2 s t flag) → (k ≡ 13) ⊎ (k ≡ 14)
+unfolding encoding
+refusal-number s t flag {k} e = by-source (ltb sourceLimit (length s)) (topIn resp2 s t) e
+  where
+    by-source : (b : Bool) (o : Reading) → Size.Refused k ≡ sizeOf (pick b (unable 14) (encodingOf resp2 s flag o)) → (k ≡ 13) ⊎ (k ≡ 14)
+    by-source true o w = inr cc
+    by-source false unfit w = inl cc
+    by-source false (got f r) w = let z : _≡_ {A = ℕ} 0 1 = cc in absurd (omega arith)
 
 -- ---- of a length query and an encode on the same source, table and flag
 
@@ -52,5 +66,5 @@ module _ (s t : List ℕ) (flag : Bool) (q : Size) (l : q ≡ sizeOf (encoding r
       (g .0 ∙ ap Written.Short (x .2), g .1)
 
   -- Both refuse alike, whatever the output, which stays as it was.
-  pub refuses : (k : ℕ) → q ≡ Size.Refused k → (r ≡ Written.Refused k) × (out₁ ≡ out₀)
-  refuses k e = gives (by-encoding (of-refusal (encoding resp2 s t flag) (sym e ∙ l)))
+  pub refused-alike : (k : ℕ) → q ≡ Size.Refused k → (r ≡ Written.Refused k) × (out₁ ≡ out₀)
+  refused-alike k e = gives (by-encoding (of-refusal (encoding resp2 s t flag) (sym e ∙ l)))

@@ -1,20 +1,29 @@
--- What the promise of a decode call gives, in the numbers that it tells: answers that stay, and bounds. Proved of every decoder's promise in `answers`.
+-- What the promises of the calls give, in the numbers that they tell. Of a decode: answers that stay, and bounds, proved of every decoder's promise in `answers`. Of an encode and the length: that they agree, and what stays of the output, proved in `encoder`.
 use mathlib.Core.Path.{_≡_, refl, sym, ap, subst, _∙_}
 use mathlib.Core.List.{List, _++_}
-use mathlib.Core.Logic.{_⊎_, inl, inr}
+use mathlib.Core.Bool.{Bool}
+use mathlib.Core.Logic.{_⊎_, inl, inr, ⊎-elim}
 use Prim.Native.Nat.{ℕ, _+_, _*_, _≤_, _<_}
 use native.Mathlib.Omega.{arith}
-use lib.ListN.{length, take, drop}
-use Rattle.meaning.specs.Kinds.{Profile}
+use lib.ListN.{length, getD, take, drop}
+use Rattle.meaning.specs.Kinds.{Profile, resp2}
 use Rattle.meaning.specs.Rows.{rowWidth, rowsIn}
 use Rattle.meaning.specs.Frames.{depthLimit}
+use Rattle.meaning.specs.Encode.{encoding, encode}
 use Rattle.answers.specs.Answers.{answerOf, meant, Decoded, toldOf}
 use Rattle.answers.specs.Theorems as Every
 use Rattle.answers.specs.Theorems.{Took, rowsOf}
 use Rattle.answers.specs.declared.Answer.{Answer}
 use Rattle.answers.specs.declared.Answer.the-variants.{Frame, Marker, Refused, Unfinished}
 use Rattle.answers.specs.declared.Told.{Told}
-use Rattle.imrazgul.specs.Calls.{DecodeCall}
+use Rattle.encoder.specs.Encodes.{sizeOf, writtenOf, Encodes, toldOfSize, toldOf as numbersOf}
+use Rattle.encoder.specs.Theorems as Sizes
+use Rattle.encoder.specs.Theorems.{refusal-number}
+use Rattle.encoder.specs.declared.Size.{Size}
+use Rattle.encoder.specs.declared.Size.the-variants as Size
+use Rattle.encoder.specs.declared.Written.{Written}
+use Rattle.encoder.specs.declared.Told.{Told as Numbers}
+use Rattle.imrazgul.specs.Calls.{DecodeCall, EncodeCall, lengthTold}
 
 -- a frame or a marker
 abbrev pub IsFrame : Told → Type 0
@@ -108,3 +117,56 @@ module _ (π : Profile) (s : List ℕ) (at : ℕ) (inside : at ≤ length s) (t�
       refusal-larger larger roomy =
           let b = Every.refusal-larger π depthLimit s at inside t₀ t₁ said decodes u₀ u₁ (answerOf (meant π depthLimit (s ++ x) at u₀)) x k refuses (other _ e) larger roomy in
           (e .says ∙ ap toldOf (b .0) ∙ sym (w .says), b .1)
+
+-- ---- of a length query and an encode on the same source, table and flag: they told l and r
+
+module _ (s t : List ℕ) (flag : Bool) (l : Numbers) (asked : l ≡ lengthTold s t flag) (out₀ out₁ : List ℕ) (r : Numbers) (w : EncodeCall s t flag out₀ out₁ r) where
+  wrote : Written
+  wrote = writtenOf (encode resp2 s t flag (length out₀))
+
+  encodes : Encodes s t flag out₀ out₁ wrote
+  unfolding wrote
+  encodes = record { says = refl; leaves = w .leaves }
+
+  -- what `encoder` proves of a size
+  Agrees : Size → Type 0
+  Agrees q = (q ≡ sizeOf (encoding resp2 s t flag)) × (l ≡ toldOfSize q)
+
+  -- An output of as many bytes as the query tells is enough: encode tells the same, and bytes past them stay.
+  pub enough : l .refusal ≡ 0 → l .bytes ≤ length out₀ → (r ≡ l) × ((j : ℕ) → l .bytes ≤ j → getD out₁ j 0 ≡ getD out₀ j 0)
+  unfolding Agrees wrote
+  enough e h = by-size (sizeOf (encoding resp2 s t flag)) (refl, asked)
+    where
+      by-size : (q : Size) → Agrees q → (r ≡ l) × ((j : ℕ) → l .bytes ≤ j → getD out₁ j 0 ≡ getD out₀ j 0)
+      by-size (Size.Bytes n) a =
+          let b : l .bytes ≡ n = ap (λ (x : Numbers). x .bytes) (a .1) in
+          let x = Sizes.enough s t flag (Size.Bytes n) (a .0) out₀ out₁ wrote encodes n refl (omega arith) in
+          (w .says ∙ ap numbersOf (x .0) ∙ sym (a .1), λ j k. x .1 j (omega arith))
+      by-size (Size.Refused k) a =
+          let b : l .refusal ≡ k = ap (λ (x : Numbers). x .refusal) (a .1) in
+          absurd (⊎-elim (λ z. omega arith) (λ z. omega arith) (refusal-number s t flag (a .0)))
+
+  -- A shorter one gives 12 with that many bytes, and stays as it was.
+  pub too-short : l .refusal ≡ 0 → length out₀ < l .bytes → (r ≡ record { refusal = 12; bytes = l .bytes }) × (out₁ ≡ out₀)
+  unfolding Agrees wrote
+  too-short e h = by-size (sizeOf (encoding resp2 s t flag)) (refl, asked)
+    where
+      by-size : (q : Size) → Agrees q → (r ≡ record { refusal = 12; bytes = l .bytes }) × (out₁ ≡ out₀)
+      by-size (Size.Bytes n) a =
+          let b : l .bytes ≡ n = ap (λ (x : Numbers). x .bytes) (a .1) in
+          let x = Sizes.too-short s t flag (Size.Bytes n) (a .0) out₀ out₁ wrote encodes n refl (omega arith) in
+          (w .says ∙ ap numbersOf (x .0) ∙ ap (λ (k : ℕ). record { refusal = 12; bytes = k }) (sym b), x .1)
+      by-size (Size.Refused k) a =
+          let b : l .refusal ≡ k = ap (λ (x : Numbers). x .refusal) (a .1) in
+          absurd (⊎-elim (λ z. omega arith) (λ z. omega arith) (refusal-number s t flag (a .0)))
+
+  -- A refusal of the query is encode's, whatever the output, which stays as it was.
+  pub refused-alike : (l .refusal ≡ 0 → ⊥) → (r ≡ l) × (out₁ ≡ out₀)
+  unfolding Agrees wrote
+  refused-alike e = by-size (sizeOf (encoding resp2 s t flag)) (refl, asked)
+    where
+      by-size : (q : Size) → Agrees q → (r ≡ l) × (out₁ ≡ out₀)
+      by-size (Size.Bytes n) a = absurd (e (ap (λ (x : Numbers). x .refusal) (a .1)))
+      by-size (Size.Refused k) a =
+          let x = Sizes.refused-alike s t flag (Size.Refused k) (a .0) out₀ out₁ wrote encodes k refl in
+          (w .says ∙ ap numbersOf (x .0) ∙ sym (a .1), x .1)

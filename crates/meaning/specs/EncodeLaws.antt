@@ -1,12 +1,11 @@
 -- Laws of encodings: frames' bytes stand one after the other, and how many they can be.
 use mathlib.Core.Path.{_≡_, refl, ap, _∙_}
-use mathlib.Core.List.{List, [], _∷_, _++_, append-assoc, append-nil}
+use mathlib.Core.List.{List, _++_, append-assoc, append-nil}
 use mathlib.Core.Bool.{Bool, true, false, _||_}
 use Prim.Native.Nat.{ℕ, _+_, _-_, _*_, _≤_}
 use native.Mathlib.Omega.{arith}
 use lib.Dec.{eqb}
-use lib.IntN.{ℤ}
-use lib.ListN.{length, take, drop, length-append, length-take, length-drop}
+use lib.ListN.{length, drop, length-append, length-take, length-drop}
 use Rattle.meaning.specs.Choice.{pick}
 use Rattle.meaning.specs.Text.{codes}
 use Rattle.meaning.specs.Kinds.{Profile, SimpleString, SimpleError, Number, BlobString, Array}

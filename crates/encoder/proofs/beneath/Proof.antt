@@ -1,5 +1,5 @@
 -- `encoder::beneath` meets its contract: the row's count, where its kind has children.
-use mathlib.Core.Path.{_≡_, sym, _∙_}
+use mathlib.Core.Path.{sym, _∙_}
 use borrow.Author.Needs.{needs}
 use Rattle.encoder.proofs.beneath.Statement.{statement}
 use Rattle.encoder.proofs.beneath.Tie as tie

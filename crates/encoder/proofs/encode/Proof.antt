@@ -1,5 +1,5 @@
 -- `encoder::encode` meets its contract: what `needed` says, and where there is room, the frame's bytes.
-use mathlib.Core.Path.{_≡_, refl, sym, _∙_}
+use mathlib.Core.Path.{refl, sym, _∙_}
 use lib.ListN.{length}
 use borrow.Author.Needs.{needs}
 use Rattle.meaning.specs.Rows.{rowsIn}

@@ -1,5 +1,5 @@
 -- `encoder::needed` meets its contract: a source that is too long, or row 0's frame in the words of the rows present.
-use mathlib.Core.Path.{_≡_, sym, _∙_}
+use mathlib.Core.Path.{sym, _∙_}
 use borrow.Author.Needs.{needs}
 use Rattle.encoder.proofs.Calls.{words-there, words-lent, long-said, size-said, unfit-said}
 use Rattle.encoder.proofs.needed.Statement.{statement}

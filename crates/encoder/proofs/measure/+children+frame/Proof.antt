@@ -1,5 +1,5 @@
 -- `encoder::measure::children` and `encoder::measure::frame` meet their contracts: the loop over the frames beneath a row, and a frame by its row. The depth that is left falls from a frame to those beneath it.
-use mathlib.Core.Path.{_≡_, sym, _∙_}
+use mathlib.Core.Path.{sym, _∙_}
 use Prim.Native.Nat.{ℕ, _+_, _-_, _*_, _<_}
 use native.Mathlib.Omega.{arith}
 use lib.ListN.{drop}

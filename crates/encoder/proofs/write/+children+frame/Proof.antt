@@ -1,10 +1,8 @@
 -- `encoder::write::children` and `encoder::write::frame` meet their contracts: the loop over the frames beneath a row, and a frame by its row. The depth that is left falls from a frame to those beneath it.
-use mathlib.Core.Path.{_≡_, sym, ap, subst, _∙_}
+use mathlib.Core.Path.{_∙_}
 use Prim.Native.Nat.{ℕ, _+_, _-_, _*_, _<_}
 use native.Mathlib.Omega.{arith}
 use lib.ListN.{length}
-use lib.Seq.{length-sets}
-use borrow.Author.Needs.{needs}
 use borrow.Fn.Kinds.{In}
 use borrow.Fn.PlainCycle.{Measures, is, falls, and}
 use Rattle.encoder.proofs.Writing.{Ready, ready, line-fits, line-room, below-room, frame-wrote, Writing, writing-start, writing-size, writing-end, writing-room, writing-next}
