@@ -150,8 +150,8 @@ fn decoders(works: &[Work], millis: u64) {
                 two(theirs(w, resp2::decode::decode_range)),
                 Some(ours(w, imrazgul::resp3_decode)),
                 Some(theirs(w, resp3::decode::complete::decode_range)),
-                two(hiredis(w, true)),
-                two(hiredis(w, false)),
+                Some(hiredis(w, true)),
+                Some(hiredis(w, false)),
                 Some(ours(w, imrazgul::resp3_stream)),
             ];
             eprintln!("  {}", w.name);
@@ -176,7 +176,7 @@ fn decoders(works: &[Work], millis: u64) {
         );
     }
     println!("\n## RESP3: nanoseconds a call, and ours by theirs\n");
-    println!("hiredis reads the same bytes as RESP2: the version measured has no RESP3.\n");
+    println!("hiredis reads the same bytes; 0.14 has no RESP3.\n");
     println!(
         "| input | bytes | ours | ours, streaming | crate | ratio | hiredis, ratio | hiredis without objects, ratio |"
     );

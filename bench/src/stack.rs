@@ -9,7 +9,14 @@ const PAINTED: usize = 3 << 20;
 #[inline(never)]
 fn below(f: &mut dyn FnMut()) -> usize {
     let top: usize;
-    unsafe { asm!("mov {}, rsp", out(reg) top, options(nomem, nostack, preserves_flags)) };
+    #[cfg(target_arch = "x86_64")]
+    unsafe {
+        asm!("mov {}, rsp", out(reg) top, options(nomem, nostack, preserves_flags))
+    };
+    #[cfg(target_arch = "aarch64")]
+    unsafe {
+        asm!("mov {}, sp", out(reg) top, options(nomem, nostack, preserves_flags))
+    };
     let words = PAINTED / 8;
     let low = top - PAINTED;
     for i in 0..words {
