@@ -1,9 +1,10 @@
 // The list: its records one after the other, up to the first that our decoders do not answer as the list does.
-use crate::number::one;
-use crate::number::two;
 use crate::table;
 use answers::Answer;
 use answers::Told;
+use lists::is_same;
+use lists::one;
+use lists::two;
 ghost use mathlib.Core.Path.{_≡_};
 ghost use Prim.Native.Nat.{_≤_};
 ghost use lib.ListN.{length};
@@ -36,18 +37,6 @@ fn end_of(s: &[u8], from: usize) -> usize
     }
     let n = HEAD + two(s[from], s[from + 1]) + table::ROW * two(s[from + 9], s[from + 10]);
     if n <= left { from + n } else { from }
-}
-
-// Whether both numbers are equal. Where they are not, they are written.
-fn is_same(what: &[u8], ours: u64, theirs: u64) -> bool {
-    if ours == theirs {
-        return true;
-    }
-    io::write_all(1, what);
-    io::print_decimal(1, ours);
-    io::write_all(1, b", the list's ");
-    io::print_decimal(1, theirs);
-    false
 }
 
 // Whether the refusal is one of those that the record allows. Where it is not, it is written.

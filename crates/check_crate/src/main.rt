@@ -6,7 +6,6 @@
 // the number k, added up, 1 where it is none; 2 bytes consumed; 2 bytes r, rows; n bytes buffer; for each row 17 bytes:
 // 1 byte kind, 8 bytes word 1, 2 bytes each words 2 to 5.
 mod list;
-mod number;
 mod table;
 
 fn main() {

@@ -1,5 +1,7 @@
 // The table that is lent: words known before a call, and what a call left in it.
-use crate::number;
+use lists::eight;
+use lists::one;
+use lists::two;
 use rows::Row;
 ghost use Prim.Native.Nat.{_≤_};
 
@@ -38,12 +40,12 @@ fn is_row(r: Row, b: &[u8]) -> bool {
     if b.len() < ROW {
         return false;
     }
-    let kind = number::one(b[0]) as u64;
-    let w1 = number::eight(b, 1);
-    let w2 = number::two(b[9], b[10]) as u64;
-    let w3 = number::two(b[11], b[12]) as u64;
-    let span = number::two(b[13], b[14]) as u64;
-    let attribute = number::two(b[15], b[16]) as u64;
+    let kind = one(b[0]) as u64;
+    let w1 = eight(b, 1);
+    let w2 = two(b[9], b[10]) as u64;
+    let w3 = two(b[11], b[12]) as u64;
+    let span = two(b[13], b[14]) as u64;
+    let attribute = two(b[15], b[16]) as u64;
     let first = r.kind == kind && r.w1 == w1 && r.w2 == w2;
     first && r.w3 == w3 && r.span == span && r.attribute == attribute
 }
