@@ -90,6 +90,26 @@ pub fn run() -> bool {
         );
         line("A3", "RESP2 encode", format!(":{n}").as_bytes(), said);
     }
+    for k in 1..=18 {
+        // a logarithm that doesn't fall takes the last numbers below a power of ten for it, if any
+        let (mut wrong, mut right) = (10usize.pow(k), 10usize.pow(k - 1));
+        while wrong - right > 1 {
+            let n = right + (wrong - right) / 2;
+            if redis_protocol::digits_in_usize(n) > k as usize {
+                wrong = n;
+            } else {
+                right = n;
+            }
+        }
+        if wrong < 10usize.pow(k) {
+            line(
+                "A3",
+                "RESP2 length",
+                format!(":{wrong}").as_bytes(),
+                format!("the first below 10^{k} with a digit too many"),
+            );
+        }
+    }
     let zeros = b"%2\r\n,0\r\n:1\r\n,-0\r\n:2\r\n";
     let mut counts = [0u32; 3];
     for _ in 0..100_000 {
