@@ -19,6 +19,8 @@ mod rig;
 mod rows;
 mod samples;
 mod show;
+#[cfg(feature = "encode")]
+mod tables;
 #[cfg(feature = "ours")]
 mod tally;
 mod texts;
