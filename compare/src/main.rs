@@ -7,6 +7,7 @@ mod decode;
 mod digits;
 #[cfg(feature = "ours")]
 mod encode;
+mod encodes;
 #[cfg_attr(not(feature = "ours"), allow(dead_code))]
 mod generate;
 mod list;
@@ -19,7 +20,6 @@ mod rig;
 mod rows;
 mod samples;
 mod show;
-#[cfg(feature = "encode")]
 mod tables;
 #[cfg(feature = "ours")]
 mod tally;
@@ -61,6 +61,7 @@ fn mode(name: &str, keys: &Keys) -> Option<bool> {
         "notes" => Some(notes::run()),
         "texts-list" => Some(texts::run()),
         "answers-list" => Some(list::run()),
+        "encodes-list" => Some(encodes::run()),
         _ => None,
     }
 }

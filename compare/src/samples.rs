@@ -18,7 +18,7 @@ fn decoders(text: &str) -> Vec<Protocol> {
     text.chars().map(one).collect()
 }
 
-fn buffer(text: &str) -> Vec<u8> {
+pub fn buffer(text: &str) -> Vec<u8> {
     let mut rest = text;
     let mut out = Vec::new();
     while let Some(c) = rest.chars().next() {
@@ -46,7 +46,7 @@ fn row(text: &str) -> Row {
     words.try_into().unwrap()
 }
 
-fn rows(text: &str) -> Vec<Row> {
+pub fn rows(text: &str) -> Vec<Row> {
     let mut out = Vec::new();
     for part in text.split(';') {
         let (first, last) = part.split_once("..").unwrap_or((part, part));
