@@ -29,6 +29,30 @@ pub extern "C" fn imrazgul_resp3_stream(src: &[u8], table: &mut [u64]) -> Told
     answers::numbers_of(resp3::streaming(src, table))
 }
 
+// RESP2: one frame from a place of src on, its rows in table. Bytes are counted from the place, offsets from the front of src; a place past the end has no bytes.
+#[no_mangle]
+pub extern "C" fn imrazgul_resp2_decode_at(src: &[u8], at: usize, table: &mut [u64]) -> Told
+    ensures { λ r. ⌜ DecodeCall resp2 (now (src .entry)) at (now (table .entry)) (now (table .exit)) r ⌝ }
+{
+    answers::numbers_of(resp2::decode_at(src, at, table, walk::DEPTH))
+}
+
+// RESP3, complete, from a place of src on.
+#[no_mangle]
+pub extern "C" fn imrazgul_resp3_decode_at(src: &[u8], at: usize, table: &mut [u64]) -> Told
+    ensures { λ r. ⌜ DecodeCall resp3 (now (src .entry)) at (now (table .entry)) (now (table .exit)) r ⌝ }
+{
+    answers::numbers_of(resp3::decode_at(src, at, table, walk::DEPTH, true))
+}
+
+// RESP3, streaming, from a place of src on.
+#[no_mangle]
+pub extern "C" fn imrazgul_resp3_stream_at(src: &[u8], at: usize, table: &mut [u64]) -> Told
+    ensures { λ r. ⌜ DecodeCall resp3-stream (now (src .entry)) at (now (table .entry)) (now (table .exit)) r ⌝ }
+{
+    answers::numbers_of(resp3::decode_at(src, at, table, walk::DEPTH, false))
+}
+
 // RESP2: row 0's frame of table, whose texts stand in src, to the front of out. With ints_as_bulk, integers are bulk strings.
 #[no_mangle]
 pub extern "C" fn imrazgul_resp2_encode(
