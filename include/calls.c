@@ -2,12 +2,10 @@
  * and byte that it was lent, and at those around them: what is exchanged, ignored or of another length in the header or
  * in the library is seen. include/test compiles and runs it.
  *
- * A new call takes a list of cases and a line in main, or a function beside those here where it has another shape.
- *
- * No header of the C library is included: include/x86-64 says why. */
-#include "imrazgul.h"
+ * A new call takes a list of cases and a line in main, or a function beside those here where it has another shape. */
+#include <stdio.h>
 
-int printf(const char *format, ...);
+#include "imrazgul.h"
 
 #define COUNT(list) (sizeof(list) / sizeof((list)[0]))
 
@@ -27,9 +25,10 @@ enum { AROUND = 16 };
 
 /* ---- decoders ---- */
 
-enum { MOST_ROWS = 4100 };
+/* More rows than count. */
+enum { LENT_ROWS = IMRAZGUL_MOST_ROWS + 4 };
 
-typedef struct imrazgul_decoded decoder(const uint8_t *src, size_t src_len, uint64_t *table, size_t words);
+typedef imrazgul_decoded decoder(const uint8_t *src, size_t src_len, uint64_t *table, size_t words);
 
 /* src_len bytes of src decoded into a table of so many words. Where src goes on behind src_len, one byte more would
  * change the answer. */
@@ -37,7 +36,7 @@ struct decode_case {
     const char *src;
     size_t src_len;
     size_t words;
-    struct imrazgul_decoded want;
+    imrazgul_decoded want;
     const uint64_t *rows; /* the words of want.rows rows */
 };
 
@@ -58,11 +57,11 @@ struct decode_case {
 static uint64_t mark(size_t i) { return 0xc3a55a3c00000000u + i; }
 
 static void decodes(const char *call, decoder *decode, size_t number, const struct decode_case *c) {
-    static uint64_t lent[AROUND + 6 * MOST_ROWS + AROUND];
+    static uint64_t lent[AROUND + 6 * LENT_ROWS + AROUND];
     for (size_t i = 0; i < COUNT(lent); i++) {
         lent[i] = mark(i);
     }
-    struct imrazgul_decoded got = decode((const uint8_t *)c->src, c->src_len, lent + AROUND, c->words);
+    imrazgul_decoded got = decode((const uint8_t *)c->src, c->src_len, lent + AROUND, c->words);
     same(call, number, "answer", got.answer, c->want.answer);
     same(call, number, "refusal", got.refusal, c->want.refusal);
     same(call, number, "consumed", got.consumed, c->want.consumed);
@@ -205,7 +204,7 @@ static void depth(const char *call, decoder *decode) {
         at = put(src, at, "*0\r\n");
         struct decode_case c = {src, at, 6 * 40, FRAME(at, 32), rows};
         if (deep == 33) {
-            c.want = (struct imrazgul_decoded)REFUSED(IMRAZGUL_TOO_DEEP);
+            c.want = (imrazgul_decoded)REFUSED(IMRAZGUL_TOO_DEEP);
         }
         decodes(call, decode, deep, &c);
     }
@@ -225,9 +224,9 @@ static void rows_that_count(const char *call, decoder *decode) {
         for (size_t i = 0; i < n; i++) {
             at = put_number(src, put(src, at, ":"), i);
         }
-        struct decode_case c = {src, at, 6 * MOST_ROWS, FRAME(at, 4096), rows};
+        struct decode_case c = {src, at, 6 * LENT_ROWS, FRAME(at, 4096), rows};
         if (n == 4096) {
-            c.want = (struct imrazgul_decoded)REFUSED(IMRAZGUL_TABLE_FULL);
+            c.want = (imrazgul_decoded)REFUSED(IMRAZGUL_TABLE_FULL);
         }
         decodes(call, decode, n, &c);
     }
@@ -252,9 +251,9 @@ struct encode_case {
 
 /* The length, and the bytes in an output that is one too short, one that is filled, and a longer one. */
 static void encodes(const char *call, size_t number, const struct encode_case *c) {
-    static uint8_t lent[AROUND + 7 * MOST_ROWS + AROUND];
+    static uint8_t lent[AROUND + 7 * LENT_ROWS + AROUND];
     const uint8_t *src = (const uint8_t *)c->src;
-    struct imrazgul_encoded got = imrazgul_resp2_length(src, c->src_len, c->rows, c->words, c->ints_as_bulk);
+    imrazgul_encoded got = imrazgul_resp2_length(src, c->src_len, c->rows, c->words, c->ints_as_bulk);
     same(call, number, "the length's refusal", got.refusal, c->refusal);
     same(call, number, "the length's bytes", got.bytes, c->count);
     const size_t rooms[] = {c->count - (c->count > 0), c->count, c->count + 3};
@@ -399,23 +398,114 @@ static void i64_digits(void) {
     }
 }
 
+/* ---- null pointers with length 0 ---- */
+
+/* A decoder takes them for an empty source and for a table without rows. */
+static void null_decodes(const char *call, decoder *decode) {
+    const struct decode_case cases[] = {
+        {NULL, 0, 12, UNFINISHED, NONE},
+        {NULL, 0, 0, REFUSED(IMRAZGUL_TABLE_FULL), NONE},
+    };
+    all_decode(call, decode, cases, COUNT(cases));
+    const char *src[] = {NULL, "+OK\r\n"};
+    for (size_t i = 0; i < COUNT(src); i++) {
+        imrazgul_decoded got = decode((const uint8_t *)src[i], 5 * i, NULL, 0);
+        same(call, i, "the answer without a table", got.answer, IMRAZGUL_REFUSED);
+        same(call, i, "the refusal without a table", got.refusal, IMRAZGUL_TABLE_FULL);
+    }
+}
+
+/* The encoder too, and for an output without room. */
+static void null_encodes(const char *call) {
+    const struct encode_case cases[] = {
+        {NULL, 0, NULL, 0, false, NOT(IMRAZGUL_BAD_TABLE)},
+        {NULL, 0, TABLE(7, 0, 0, 0, 1, 0), false, WRITTEN("$0\r\n\r\n")},
+        {NULL, 0, TABLE(7, 0, 1, 0, 1, 0), false, NOT(IMRAZGUL_BAD_TABLE)},
+    };
+    for (size_t i = 0; i < COUNT(cases); i++) {
+        const struct encode_case *c = &cases[i];
+        encodes(call, i, c);
+        imrazgul_encoded got = imrazgul_resp2_encode(NULL, 0, c->rows, c->words, false, NULL, 0);
+        same(call, i, "the refusal without an output", got.refusal, c->refusal ? c->refusal : IMRAZGUL_OUTPUT_SHORT);
+        same(call, i, "the bytes without an output", got.bytes, c->count);
+    }
+}
+
+/* ---- the header's own ---- */
+
+/* The numbers that stand in the list's order, from the first on. */
+static void in_order(const char *what, const int *list, size_t count, int first) {
+    for (size_t i = 0; i < count; i++) {
+        same(what, i, "a constant", (uint64_t)list[i], (uint64_t)first + i);
+    }
+}
+
+static void constants(void) {
+    static const int words[] = {IMRAZGUL_WORD_KIND,  IMRAZGUL_WORD_START, IMRAZGUL_WORD_END,
+                                IMRAZGUL_WORD_COUNT, IMRAZGUL_WORD_SPAN,  IMRAZGUL_WORD_ATTRIBUTE};
+    static const int kinds[] = {
+        IMRAZGUL_SIMPLE_STRING,  IMRAZGUL_SIMPLE_ERROR, IMRAZGUL_NUMBER,     IMRAZGUL_DOUBLE,   IMRAZGUL_BOOLEAN,
+        IMRAZGUL_NULL,           IMRAZGUL_BLOB_STRING,  IMRAZGUL_BLOB_ERROR, IMRAZGUL_VERBATIM, IMRAZGUL_BIG_NUMBER,
+        IMRAZGUL_CHUNKED_STRING, IMRAZGUL_END_STREAM,   IMRAZGUL_ARRAY,      IMRAZGUL_MAP,      IMRAZGUL_SET,
+        IMRAZGUL_PUSH,           IMRAZGUL_ATTRIBUTE,    IMRAZGUL_HELLO,      IMRAZGUL_MARKED,   IMRAZGUL_HELLO_USER,
+        IMRAZGUL_HELLO_PASSWORD, IMRAZGUL_HELLO_NAME};
+    static const int refusals[] = {
+        IMRAZGUL_BAD_TYPE,   IMRAZGUL_BAD_LENGTH,     IMRAZGUL_BAD_VALUE, IMRAZGUL_BAD_VERBATIM,  IMRAZGUL_BAD_HELLO,
+        IMRAZGUL_BAD_MARKER, IMRAZGUL_TWO_ATTRIBUTES, IMRAZGUL_BAD_KEY,   IMRAZGUL_BAD_ANNOTATED, IMRAZGUL_TOO_DEEP,
+        IMRAZGUL_TABLE_FULL, IMRAZGUL_OUTPUT_SHORT,   IMRAZGUL_BAD_TABLE, IMRAZGUL_LONG_SOURCE};
+    in_order("enum imrazgul_word", words, COUNT(words), 0);
+    in_order("enum imrazgul_kind", kinds, COUNT(kinds), 1);
+    in_order("enum imrazgul_refusal", refusals, COUNT(refusals), 1);
+    same("the words of a row", 0, "VALUE", IMRAZGUL_WORD_VALUE, 1);
+    same("the words of a row", 0, "DETAIL", IMRAZGUL_WORD_DETAIL, 3);
+    same("the words of a row", 0, "ROW_WORDS", IMRAZGUL_ROW_WORDS, COUNT(words));
+    same("the limits", 0, "MOST_ROWS", IMRAZGUL_MOST_ROWS, 4096);
+    same("the limits", 0, "MOST_WORDS", IMRAZGUL_MOST_WORDS, IMRAZGUL_ROW_WORDS * IMRAZGUL_MOST_ROWS);
+    same("the limits", 0, "MOST_DEPTH", IMRAZGUL_MOST_DEPTH, 32);
+    const char *v = IMRAZGUL_VERSION;
+    same("the version", 0, "its number", IMRAZGUL_VERSION_NUMBER,
+         (uint64_t)(10000 * (v[0] - '0') + 100 * (v[2] - '0') + (v[4] - '0')));
+}
+
+/* Each refusal has words of its own, and all other numbers the same ones. */
+static void refusal_words(void) {
+    for (uint64_t a = 0; a <= 15; a++) {
+        for (uint64_t b = 0; b < a; b++) {
+            const char *x = imrazgul_refusal_words(a), *y = imrazgul_refusal_words(b);
+            size_t i = 0;
+            while (x[i] != 0 && x[i] == y[i]) {
+                i++;
+            }
+            same("imrazgul_refusal_words", a, "another number's words", x[i] == y[i], 0);
+        }
+    }
+    same("imrazgul_refusal_words", 16, "the words of no refusal",
+         imrazgul_refusal_words(UINT64_MAX) == imrazgul_refusal_words(15), 1);
+}
+
 int main(void) {
+    constants();
+    refusal_words();
     all_decode("imrazgul_resp2_decode", imrazgul_resp2_decode, resp2, COUNT(resp2));
     depth("imrazgul_resp2_decode by depth", imrazgul_resp2_decode);
     rows_that_count("imrazgul_resp2_decode by rows", imrazgul_resp2_decode);
+    null_decodes("imrazgul_resp2_decode of null pointers", imrazgul_resp2_decode);
     all_decode("imrazgul_resp3_decode", imrazgul_resp3_decode, resp3, COUNT(resp3));
     all_decode("imrazgul_resp3_decode at a marker", imrazgul_resp3_decode, resp3_complete, COUNT(resp3_complete));
     depth("imrazgul_resp3_decode by depth", imrazgul_resp3_decode);
     rows_that_count("imrazgul_resp3_decode by rows", imrazgul_resp3_decode);
+    null_decodes("imrazgul_resp3_decode of null pointers", imrazgul_resp3_decode);
     all_decode("imrazgul_resp3_stream", imrazgul_resp3_stream, resp3, COUNT(resp3));
     all_decode("imrazgul_resp3_stream at a marker", imrazgul_resp3_stream, resp3_streaming, COUNT(resp3_streaming));
     depth("imrazgul_resp3_stream by depth", imrazgul_resp3_stream);
     rows_that_count("imrazgul_resp3_stream by rows", imrazgul_resp3_stream);
+    null_decodes("imrazgul_resp3_stream of null pointers", imrazgul_resp3_stream);
     for (size_t i = 0; i < COUNT(encode_cases); i++) {
         encodes("imrazgul_resp2_encode", i, &encode_cases[i]);
     }
     encode_depth("imrazgul_resp2_encode by depth");
     encode_rows("imrazgul_resp2_encode by rows");
+    null_encodes("imrazgul_resp2_encode of null pointers");
     u64_digits();
     i64_digits();
     printf("calls from C: %u looks, %u wrong\n", looks, wrong);
