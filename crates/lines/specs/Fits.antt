@@ -1,21 +1,14 @@
 -- Which rows have bytes, kind by kind.
-use mathlib.Core.Path.{_≡_, refl}
+use mathlib.Core.Path.{_≡_}
 use mathlib.Core.List.{List}
-use mathlib.Core.Bool.{Bool, true, false, _&&_, _||_}
+use mathlib.Core.Bool.{Bool, true, false, _&&_, and-eq-true-iff}
 use Prim.Native.Nat.{ℕ, _≤_}
 use lib.Dec.{eqb, leb}
 use lib.ListN.{length}
 use borrow.Author.Tests.{eq-eqb, ne-eqb, leb-true}
-use Rattle.meaning.specs.Kinds.{resp2, SimpleString, SimpleError, Number, Null, BlobString, Array}
+use Rattle.meaning.specs.Kinds.{resp2, Number, Null, Array}
 use Rattle.meaning.specs.Rows.{Node}
-use Rattle.meaning.specs.Encode.{rowFits}
-
--- a text on a line of its own
-abbrev pub isLine : ℕ → Bool
-isLine k = eqb k SimpleString || eqb k SimpleError
-
-abbrev pub hasText : ℕ → Bool
-hasText k = isLine k || eqb k BlobString
+use Rattle.meaning.specs.Encode.{isLine, hasText, rowFits}
 
 -- whether words 1 and 2 are the ends of a text in s
 abbrev pub liesIn : List ℕ → ℕ → ℕ → Bool
@@ -54,16 +47,12 @@ module _ (s : List ℕ) (h : Node) (a : h .attribute ≡ 0) where
 
 -- ---- the words of a row that fits
 
-both : (a b : Bool) → (a && b) ≡ true → (a ≡ true) × (b ≡ true)
-both true b e = (refl, e)
-both false b e = (e, cc)
-
 -- a text has its ends in order, and in s
 pub text-lies : (s : List ℕ) (h : Node) → rowFits resp2 s h ≡ true → hasText (h .kind) ≡ true → (h .w1 ≤ h .w2) × (h .w2 ≤ length s)
 unfolding rowFits
 text-lies s h f t =
-    let words = both (eqb (h .attribute) 0) (liesIn s (h .w1) (h .w2) && eqb (h .w3) 0) (rw t at f) .1 in
-    let ends = both (leb (h .w1) (h .w2)) (leb (h .w2) (length s)) (both (liesIn s (h .w1) (h .w2)) (eqb (h .w3) 0) words .0) in
+    let words = and-eq-true-iff (eqb (h .attribute) 0) (liesIn s (h .w1) (h .w2) && eqb (h .w3) 0) .0 (rw t at f) .1 in
+    let ends = and-eq-true-iff (leb (h .w1) (h .w2)) (leb (h .w2) (length s)) .0 (and-eq-true-iff (liesIn s (h .w1) (h .w2)) (eqb (h .w3) 0) .0 words .0) in
     (leb-true (h .w1) (h .w2) (ends .0), leb-true (h .w2) (length s) (ends .1))
 
 pub line-text : (k : ℕ) → isLine k ≡ true → hasText k ≡ true

@@ -8,9 +8,9 @@ ghost use lib.ListN.{length};
 ghost use lib.Seq.{sets};
 ghost use Rattle.meaning.specs.Kinds.{resp2, typeByte, Number, BlobString};
 ghost use Rattle.meaning.specs.Digits.{digitsOf, shown};
-ghost use Rattle.meaning.specs.Encode.{rowFits, lineOf, lineFor, bulkFor, integerText, crlf, sourceLimit};
+ghost use Rattle.meaning.specs.Encode.{isLine, hasText, rowFits, lineOf, lineFor, bulkFor, integerText, crlf, sourceLimit};
 ghost use Rattle.rows.specs.Put.{nodeIn};
-ghost use Rattle.lines.specs.Fits.{isLine, hasText, liesIn, blankWords};
+ghost use Rattle.lines.specs.Fits.{liesIn, blankWords};
 ghost use Rattle.lines.specs.LineLaws.{nullLine};
 ghost use Rattle.lines.specs.Puts.{Puts};
 

@@ -14,13 +14,22 @@ use Rattle.meaning.specs.Tree.{Reading, unfit, got, frameIn}
 use Rattle.meaning.specs.Frames.{depthLimit}
 use Rattle.meaning.specs.Digits.{digitsOf, signedDigitsOf, signedWord, shown}
 
+-- kinds whose text is a line
+abbrev pub isLine : ℕ → Bool
+isLine k = eqb k SimpleString || eqb k SimpleError
+
+-- kinds whose row has a text
+abbrev pub hasText : ℕ → Bool
+hasText k = isLine k || eqb k BlobString
+
 -- ---- which rows have an encoding (RULES 5.2)
 
 -- Whether a row's words are what its kind allows, beside a source s: texts lie in it, and words without a meaning are 0.
+-- The profile is for the kinds that RESP3 alone has: their rules go by it, and the six of RESP2 need none of it.
 unfoldable pub rowFits : Profile → List ℕ → Node → Bool
 rowFits π s h =
     eqb (h .attribute) 0
-    && pick (eqb (h .kind) SimpleString || eqb (h .kind) SimpleError || eqb (h .kind) BlobString) (leb (h .w1) (h .w2) && leb (h .w2) (length s) && eqb (h .w3) 0)
+    && pick (hasText (h .kind)) (leb (h .w1) (h .w2) && leb (h .w2) (length s) && eqb (h .w3) 0)
     (pick (eqb (h .kind) Number) (eqb (h .w2) 0 && eqb (h .w3) 0)
     (pick (eqb (h .kind) Null) (eqb (h .w1) 0 && eqb (h .w2) 0 && eqb (h .w3) 0)
     (eqb (h .kind) Array && eqb (h .w1) 0 && eqb (h .w2) 0)))
@@ -74,7 +83,7 @@ textIn s h = take (h .w2 - h .w1) (drop (h .w1) s)
 unfoldable pub lineOf : Profile → List ℕ → Bool → Node → List ℕ
 unfolding typeByte digitsOf signedDigitsOf codes
 lineOf π s flag h =
-    pick (eqb (h .kind) SimpleString || eqb (h .kind) SimpleError) (lineFor π (h .kind) (textIn s h))
+    pick (isLine (h .kind)) (lineFor π (h .kind) (textIn s h))
     (pick (eqb (h .kind) Number) (integerFor π flag (integerText (h .w1)))
     (pick (eqb (h .kind) BlobString) (bulkFor π BlobString (textIn s h))
     (pick (eqb (h .kind) Array) (countFor π Array (h .w3))

@@ -1,18 +1,18 @@
--- Laws of encodings: frames' bytes stand one after the other, and how many they can be.
+-- Laws of encodings: frames' bytes stand one after the other, a row's by its kind, and how many they are.
 use mathlib.Core.Path.{_≡_, refl, ap, _∙_}
 use mathlib.Core.List.{List, _++_, append-assoc, append-nil}
-use mathlib.Core.Bool.{Bool, true, false, _||_}
+use mathlib.Core.Bool.{Bool, true, false}
 use Prim.Native.Nat.{ℕ, _+_, _-_, _*_, _≤_}
 use native.Mathlib.Omega.{arith}
 use lib.Dec.{eqb}
 use lib.ListN.{length, drop, length-append, length-take, length-drop}
 use Rattle.meaning.specs.Choice.{pick}
 use Rattle.meaning.specs.Text.{codes}
-use Rattle.meaning.specs.Kinds.{Profile, SimpleString, SimpleError, Number, BlobString, Array}
+use Rattle.meaning.specs.Kinds.{Profile, Number, BlobString, Array}
 use Rattle.meaning.specs.Rows.{Node, Forest, end, item, join, span}
 use Rattle.meaning.specs.Digits.{Numeral, digitsOf, signedDigitsOf, signedWord, shown}
 use Rattle.meaning.specs.DigitLaws.{length-padded, signed-length}
-use Rattle.meaning.specs.Encode.{crlf, lineFor, countFor, bulkFor, integerText, integerFor, textIn, lineOf, encoded, sourceLimit}
+use Rattle.meaning.specs.Encode.{isLine, crlf, lineFor, countFor, bulkFor, integerText, integerFor, textIn, lineOf, encoded, sourceLimit}
 
 -- ---- frames, one after the other
 
@@ -34,6 +34,29 @@ module _ (π : Profile) (s : List ℕ) (flag : Bool) where
   pub length-encoded-item : (h : Node) (k : Forest) → length (encoded π s flag (item h k end)) ≡ length (lineOf π s flag h) + length (encoded π s flag k)
   length-encoded-item h k = ap length (encoded-item h k) ∙ length-append (lineOf π s flag h) (encoded π s flag k)
 
+-- ---- a row's bytes, by its kind
+
+module _ (π : Profile) (s : List ℕ) (flag : Bool) (h : Node) where
+  pub text-line : isLine (h .kind) ≡ true → lineOf π s flag h ≡ lineFor π (h .kind) (textIn s h)
+  unfolding lineOf
+  text-line k = rw k
+
+  pub integer-line : h .kind ≡ Number → flag ≡ false → lineOf π s flag h ≡ lineFor π Number (integerText (h .w1))
+  unfolding lineOf
+  integer-line k f = rw (k, f)
+
+  pub bulk-integer-line : h .kind ≡ Number → flag ≡ true → lineOf π s flag h ≡ bulkFor π BlobString (integerText (h .w1))
+  unfolding lineOf
+  bulk-integer-line k f = rw (k, f)
+
+  pub blob-line : h .kind ≡ BlobString → lineOf π s flag h ≡ bulkFor π BlobString (textIn s h)
+  unfolding lineOf
+  blob-line k = rw k
+
+  pub array-line : h .kind ≡ Array → lineOf π s flag h ≡ countFor π Array (h .w3)
+  unfolding lineOf
+  array-line k = rw k
+
 -- ---- how many bytes
 
 -- what a row's line has at most beside a text: a type byte, a number and a second one, and two ends of a line
@@ -41,8 +64,11 @@ abbrev pub lineMost : ℕ
 lineMost = 45
 
 module _ (π : Profile) where
-  length-line : (k : ℕ) (x : List ℕ) → length (lineFor π k x) ≡ length x + 3
+  pub length-line : (k : ℕ) (x : List ℕ) → length (lineFor π k x) ≡ length x + 3
   length-line k x = omega (arith, length-append x crlf)
+
+  pub length-bulk : (k : ℕ) (x : List ℕ) → length (bulkFor π k x) ≡ length (shown (digitsOf (length x))) + length x + 5
+  length-bulk k x = omega (arith, length-append (countFor π k (length x)) (x ++ crlf), length-line k (shown (digitsOf (length x))), length-append x crlf)
 
   length-shown : (d : Numeral) → length (d .bytes) ≡ 20 → length (shown d) ≤ 20
   length-shown d e = omega (arith, length-drop (d .unused) (d .bytes))
@@ -52,7 +78,8 @@ module _ (π : Profile) where
   count-most k n = omega (arith, length-line k (shown (digitsOf n)), length-shown (digitsOf n) (length-padded 20 n))
 
   bulk-most : (k : ℕ) (x : List ℕ) → length (bulkFor π k x) ≤ length x + 25
-  bulk-most k x = omega (arith, length-append (countFor π k (length x)) (x ++ crlf), count-most k (length x), length-append x crlf)
+  unfolding digitsOf
+  bulk-most k x = omega (arith, length-bulk k x, length-shown (digitsOf (length x)) (length-padded 20 (length x)))
 
   integer-most : (flag : Bool) (w : ℕ) → length (integerFor π flag (integerText w)) ≤ lineMost
   integer-most true w = omega (arith, bulk-most BlobString (integerText w), length-shown (signedDigitsOf (signedWord w)) (signed-length (signedWord w)))
@@ -72,7 +99,7 @@ module _ (π : Profile) where
   pub line-most : (s : List ℕ) (flag : Bool) (h : Node) → length (lineOf π s flag h) ≤ length s + lineMost
   unfolding lineOf codes
   line-most s flag h =
-      either s (eqb (h .kind) SimpleString || eqb (h .kind) SimpleError) _ _ (omega (arith, length-line (h .kind) (textIn s h), text-most s h))
+      either s (isLine (h .kind)) _ _ (omega (arith, length-line (h .kind) (textIn s h), text-most s h))
       (either s (eqb (h .kind) Number) _ _ (omega (arith, integer-most flag (h .w1)))
       (either s (eqb (h .kind) BlobString) _ _ (omega (arith, bulk-most BlobString (textIn s h), text-most s h))
       (either s (eqb (h .kind) Array) _ _ (omega (arith, count-most Array (h .w3))) (omega arith))))

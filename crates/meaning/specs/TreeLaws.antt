@@ -1,6 +1,6 @@
--- Laws of readings, over any rows that may stand there and any count of frames beneath one: a reading takes whole rows from the front, and frames are read one after another.
+-- Laws of readings, over any rows that may stand there and any count of frames beneath one: a reading takes whole rows from the front, frames are read one after another, and what is read are the frame's words.
 use mathlib.Core.Path.{_≡_, refl, sym, ap, subst, _∙_}
-use mathlib.Core.List.{List, [], _∷_}
+use mathlib.Core.List.{List, [], _∷_, _++_, append-assoc, append-nil}
 use mathlib.Core.Bool.{Bool, true, false}
 use Prim.Native.Nat.{ℕ, zero, suc, _+_, _-_, _*_, _≤_, _<_}
 use native.Mathlib.Omega.{arith, by-contra}
@@ -9,16 +9,17 @@ use native.Mathlib.Numerals.{add-one}
 use lib.Dec.{eqb}
 use lib.ListN.{length, getD, drop, length-drop}
 use lib.Seq.{drop-cons, drop-drop}
+use borrow.Author.Tests.{eqb-true, eq-eqb}
 use Rattle.meaning.specs.Choice.{pick}
-use Rattle.meaning.specs.Rows.{Node, nodeOf, Forest, end, item, join, span, rowWidth}
-use Rattle.meaning.specs.RowsLaws.{join-end, join-assoc, span-join}
+use Rattle.meaning.specs.Rows.{Node, nodeOf, Forest, end, item, join, span, words, rowWidth}
+use Rattle.meaning.specs.RowsLaws.{join-end, join-assoc, span-join, words-join}
 use Rattle.meaning.specs.Tree.{Reading, unfit, got, andThen, framesIn, itemIn, frameIn}
 
 -- frames read after f
 abbrev pub after : Forest → Reading → Reading
 after f o = andThen o (λ g q. got (join f g) q)
 
-unread : {f : Forest} {r : List ℕ} → unfit ≡ got f r → ⊥
+pub unread : {f : Forest} {r : List ℕ} → unfit ≡ got f r → ⊥
 unread e = let z : _≡_ {A = ℕ} 0 1 = cc in omega arith
 
 -- what holds of the frames read and of the words after them
@@ -221,8 +222,8 @@ module _ (fits : Node → Bool) (kids : Node → ℕ) where
     unfolding frameIn
     row-there h = ap (frameIn fits kids (suc d)) (row-words t row h)
 
-item-got : (h : Node) (g : Forest) (q : List ℕ) (b : Bool) {f : Forest} {r : List ℕ} → pick b (got (item h g end) q) unfit ≡ got f r → (f ≡ item h g end) × (q ≡ r)
-item-got h g q true e = (cc, cc)
+item-got : (h : Node) (g : Forest) (q : List ℕ) (b : Bool) {f : Forest} {r : List ℕ} → pick b (got (item h g end) q) unfit ≡ got f r → (b ≡ true) × (f ≡ item h g end) × (q ≡ r)
+item-got h g q true e = (refl, cc, cc)
 item-got h g q false e = absurd (unread e)
 
 -- a frame that was read from a row on: its row fits, and so do the frames beneath it
@@ -234,6 +235,7 @@ pub record Parts (fits : Node → Bool) (kids : Node → ℕ) (d : ℕ) (t : Lis
   pub beneath : Forest
   pub reads : framesIn (kids (nodeAt t (rowWidth * row))) (frameIn fits kids deeper) (drop (rowWidth * (row + 1)) t) ≡ got beneath r
   pub is : f ≡ item (nodeAt t (rowWidth * row)) beneath end
+  pub spans : getD t (rowWidth * row + 4) 0 ≡ span beneath + 1
 
 pub frame-parts : (fits : Node → Bool) (kids : Node → ℕ) (d : ℕ) (t : List ℕ) (row : ℕ) {f : Forest} {r : List ℕ} → frameIn fits kids d (drop (rowWidth * row) t) ≡ got f r → Parts fits kids d t row f r
 frame-parts fits kids zero t row e = absurd (unread (sym (frame-deep fits kids (drop (rowWidth * row) t)) ∙ e))
@@ -249,4 +251,75 @@ frame-parts fits kids (suc d) t row {f} {r} e =
     by-row there true b unfit u w = absurd (unread w)
     by-row there true b (got g q) u w =
         let x = item-got (nodeAt t (rowWidth * row)) g q (eqb (getD t (rowWidth * row + 4) 0) (span g + 1)) w in
-        record { deeper = d; depth = refl; there = there; fit = b; beneath = g; reads = u ∙ ap (got g) (x .1); is = x .0 }
+        record { deeper = d; depth = refl; there = there; fit = b; beneath = g; reads = u ∙ ap (got g) (x .2); is = x .1; spans = eqb-true (getD t (rowWidth * row + 4) 0) (span g + 1) (x .0) }
+
+-- ---- what is read is a frame of those words, and its words are read as it
+
+words-item : (h : Node) (k : Forest) → words (item h k end) ≡ h .kind ∷ h .w1 ∷ h .w2 ∷ h .w3 ∷ (span k + 1) ∷ h .attribute ∷ words k
+unfolding words
+words-item h k = rw (append-nil (words k))
+
+-- n frames one after another, each of them P
+abbrev pub Many : (Forest → Type 0) → ℕ → Forest → Type 0
+Many P zero g = g ≡ end
+Many P (suc n) g = (f : Forest) × (r : Forest) × (g ≡ join f r) × P f × Many P n r
+
+module _ (fits : Node → Bool) (kids : Node → ℕ) where
+  -- one row that fits, over as many frames as it says, each of them P
+  pub record Over (P : Forest → Type 0) (f : Forest) : Type 0 where
+    pub top : Node
+    pub below : Forest
+    pub is : f ≡ item top below end
+    pub fit : fits top ≡ true
+    pub many : Many P (kids top) below
+
+  -- a frame with so much depth left
+  abbrev pub Framed : ℕ → Forest → Type 0
+  Framed zero f = ⊥
+  Framed (suc d) f = Over (Framed d) f
+
+  -- what is read is such a frame, and its words are those that were read
+  abbrev Reads : (List ℕ → Reading) → (Forest → Type 0) → Type 0
+  Reads p P = (ws : List ℕ) (f : Forest) (r : List ℕ) → p ws ≡ got f r → P f × (ws ≡ words f ++ r)
+
+  frames-of : (p : List ℕ → Reading) (P : Forest → Type 0) → Reads p P → (n : ℕ) → Reads (framesIn n p) (Many P n)
+  unfolding framesIn words
+  frames-of p P each zero ws f r e = ((cc), cc)
+  frames-of p P each (suc n) ws f r e = go (frames-of p P each n) (p ws) refl e
+    where
+      rest : (g : Forest) (q : List ℕ) → P g × (ws ≡ words g ++ q) → (o : Reading) → ((l : Forest) (j : List ℕ) → o ≡ got l j → Many P n l × (q ≡ words l ++ j))
+          → andThen o (λ l j. got (join g l) j) ≡ got f r → Many P (suc n) f × (ws ≡ words f ++ r)
+      rest g q first unfit others h = absurd (unread h)
+      rest g q first (got l j) others h =
+          let next = others l j refl in
+          let whole : join g l ≡ f = cc in
+          let left : j ≡ r = cc in
+          ((g, l, sym whole, first .0, next .0), first .1 ∙ rw (next .1, left, ← whole, words-join, append-assoc))
+
+      go : Reads (framesIn n p) (Many P n) → (o : Reading) → p ws ≡ o → andThen o (λ g q. andThen (framesIn n p q) (λ l j. got (join g l) j)) ≡ got f r
+          → Many P (suc n) f × (ws ≡ words f ++ r)
+      go ih unfit read h = absurd (unread h)
+      go ih (got g q) read h = rest g q (each ws g q read) (framesIn n p q) (ih q) h
+
+  pub frame-of : (d : ℕ) → Reads (frameIn fits kids d) (Framed d)
+  frame-of zero ws f r e = absurd (unread (sym (frame-deep fits kids ws) ∙ e))
+  frame-of (suc d) ws f r e =
+      let p = frame-parts fits kids (suc d) ws 0 e in
+      let same : p .deeper ≡ d = omega (arith, p .depth) in
+      let m = frames-of (frameIn fits kids d) (Framed d) (frame-of d) (kids (nodeAt ws 0)) (drop rowWidth ws) (p .beneath) r (rw same at (p .reads)) in
+      (record { top = nodeAt ws 0; below = p .beneath; is = p .is; fit = p .fit; many = m .0 }, row-words ws 0 (p .there) ∙ rw (p .spans, m .1) (sym (ap (λ (x : List ℕ). x ++ r) (ap words (p .is) ∙ words-item (nodeAt ws 0) (p .beneath)))))
+
+  -- and the words of such a frame are read as it
+  frames-in : (p : List ℕ → Reading) (P : Forest → Type 0) → ((f : Forest) (r : List ℕ) → P f → p (words f ++ r) ≡ got f r)
+      → (n : ℕ) (g : Forest) (r : List ℕ) → Many P n g → framesIn n p (words g ++ r) ≡ got g r
+  unfolding framesIn words
+  frames-in p P each zero g r e = rw e
+  frames-in p P each (suc n) g r (f, l, e, first, others) =
+      rw (e, words-join f l, append-assoc (words f) (words l) r, each f (words l ++ r) first, frames-in p P each n l r others)
+
+  pub frame-in : (d : ℕ) (f : Forest) (r : List ℕ) → Framed d f → frameIn fits kids d (words f ++ r) ≡ got f r
+  unfolding frameIn
+  frame-in zero f r h = absurd h
+  frame-in (suc d) f r h =
+      rw (h .is, words-item (h .top) (h .below), h .fit, frames-in (frameIn fits kids d) (Framed d) (frame-in d) (kids (h .top)) (h .below) r (h .many))
+      (rw (eq-eqb (span (h .below) + 1) (span (h .below) + 1) refl))

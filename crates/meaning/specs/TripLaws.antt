@@ -1,7 +1,7 @@
 -- The round trips (RULES 5.6): what is encoded is decoded as the same frame, and what is decoded is encoded as the same bytes.
 use mathlib.Core.Path.{_≡_, refl, sym, ap, subst, _∙_}
 use mathlib.Core.List.{List, [], _∷_, _++_, append-assoc, append-nil}
-use mathlib.Core.Bool.{Bool, true, false, _&&_, _||_, and-false, and-assoc}
+use mathlib.Core.Bool.{Bool, true, false, true≢false, false≢true, _&&_, _||_, and-false, and-assoc, and-eq-true-iff}
 use mathlib.Core.Option.{Option, none, some}
 use Prim.Native.Nat.{ℕ, zero, suc, _+_, _-_, _*_, _^_, _≤_, _<_}
 use Prim.Native.Char.{code}
@@ -28,26 +28,20 @@ use Rattle.meaning.specs.FramesLaws.{frame-fills, frame-no-marker}
 use Rattle.meaning.specs.RunLaws.{ask-none, ask-some, bytes-there, bytes-short, type-there, type-short, mapOut, frames-none, next, frames-more, over, holder-run, array-holds, frame-deep, frame-full, frame-run, leaf-run, unmarked-run, decodeRun-is, decode-is}
 use Rattle.meaning.specs.Digits.{digitsOf, signedDigitsOf, shown}
 use Rattle.meaning.specs.DigitLaws.{read-shown, read-plus, read-signed}
-use Rattle.meaning.specs.Tree.{Reading, unfit, got, andThen, framesIn, itemIn, frameIn}
-use Rattle.meaning.specs.Encode.{rowFits, childrenOf, present, topIn, crlf, lineFor, countFor, bulkFor, integerText, textIn, lineOf, encoded, able, unable, encodingOf, sourceLimit, encoding}
-use Rattle.meaning.specs.EncodeLaws.{encoded-join, encoded-item}
-use Rattle.meaning.specs.Trips.{isLine, hasText, Words64, Each, Clean, SameRow, Alike, neither, both, textFrom, placedRow, placed, lineAt, spelledRow, behindRow, behind, spelled}
+use Rattle.meaning.specs.Tree.{Reading, unfit, got, frameIn}
+use Rattle.meaning.specs.TreeLaws.{Many, Over, Framed, frame-of, frame-in}
+use Rattle.meaning.specs.Encode.{isLine, hasText, rowFits, childrenOf, present, topIn, crlf, countFor, bulkFor, integerText, textIn, lineOf, encoded, able, unable, encodingOf, sourceLimit, encoding}
+use Rattle.meaning.specs.EncodeLaws.{encoded-join, encoded-item, text-line, blob-line}
+use Rattle.meaning.specs.Trips.{Words64, Each, Clean, SameRow, Alike, neither, both, textFrom, placedRow, placed, lineAt, spelledRow, behindRow, behind, spelled}
 
 -- ---- tests and lists
-
-untrue : {X : Type 0} → true ≡ false → X
-untrue e = let z : _≡_ {A = ℕ} 1 0 = ap (λ (x : Bool). pick x 1 0) e in absurd (omega arith)
-
-and-split : (a b : Bool) → (a && b) ≡ true → (a ≡ true) × (b ≡ true)
-and-split true b e = (refl, e)
-and-split false b e = untrue (sym e)
 
 same-true : (a b : List ℕ) → same a b ≡ true → a ≡ b
 unfolding same
 same-true [] [] e = refl
-same-true [] (b ∷ t) e = untrue (sym e)
-same-true (a ∷ s) [] e = untrue (sym e)
-same-true (a ∷ s) (b ∷ t) e = let both = and-split (eqb a b) (same s t) e in rw (eqb-true a b (both .0), same-true s t (both .1))
+same-true [] (b ∷ t) e = absurd (false≢true e)
+same-true (a ∷ s) [] e = absurd (false≢true e)
+same-true (a ∷ s) (b ∷ t) e = let both = and-eq-true-iff (eqb a b) (same s t) .0 e in rw (eqb-true a b (both .0), same-true s t (both .1))
 
 length-text : (s : List ℕ) (a b : ℕ) → b ≤ length s → length (take (b - a) (drop a s)) ≡ b - a
 length-text s a b h = simp (length-take, length-drop) (omega arith)
@@ -69,107 +63,6 @@ front-of l x n e = go (leb n (length l)) refl
         let le : length l ≤ n = omega (arith, leb-false n (length l) q) in
         take-all n l le ∙ e ∙ ap (λ (y : List ℕ). x ++ y) (drop-of-length-le l le) ∙ append-nil x
 
--- ---- rows read as frames
-
-words-item : (h : Node) (k : Forest) → words (item h k end) ≡ h .kind ∷ h .w1 ∷ h .w2 ∷ h .w3 ∷ (span k + 1) ∷ h .attribute ∷ words k
-unfolding words
-words-item h k = rw (append-nil (words k))
-
-unread : {X : Type 0} (f : Forest) (r : List ℕ) → unfit ≡ got f r → X
-unread f r e = let z : _≡_ {A = ℕ} 0 1 = cc in absurd (omega arith)
-
--- n frames one after another, each of them P
-abbrev Many : (Forest → Type 0) → ℕ → Forest → Type 0
-Many P zero g = g ≡ end
-Many P (suc n) g = (f : Forest) × (r : Forest) × (g ≡ join f r) × P f × Many P n r
-
-module _ (fits : Node → Bool) (kids : Node → ℕ) where
-  -- one row that fits, over as many frames as it says, each of them P
-  record Over (P : Forest → Type 0) (f : Forest) : Type 0 where
-    top : Node
-    below : Forest
-    is : f ≡ item top below end
-    fit : fits top ≡ true
-    many : Many P (kids top) below
-
-  -- a frame with so much depth left
-  abbrev Framed : ℕ → Forest → Type 0
-  Framed zero f = ⊥
-  Framed (suc d) f = Over (Framed d) f
-
-  -- what is read is such a frame, and its words are those that were read
-  abbrev Reads : (List ℕ → Reading) → (Forest → Type 0) → Type 0
-  Reads p P = (ws : List ℕ) (f : Forest) (r : List ℕ) → p ws ≡ got f r → P f × (ws ≡ words f ++ r)
-
-  frames-of : (p : List ℕ → Reading) (P : Forest → Type 0) → Reads p P → (n : ℕ) → Reads (framesIn n p) (Many P n)
-  unfolding framesIn words
-  frames-of p P each zero ws f r e = ((cc), cc)
-  frames-of p P each (suc n) ws f r e = go (frames-of p P each n) (p ws) refl e
-    where
-      rest : (g : Forest) (q : List ℕ) → P g × (ws ≡ words g ++ q) → (o : Reading) → ((l : Forest) (j : List ℕ) → o ≡ got l j → Many P n l × (q ≡ words l ++ j))
-          → andThen o (λ l j. got (join g l) j) ≡ got f r → Many P (suc n) f × (ws ≡ words f ++ r)
-      rest g q first unfit others h = unread f r h
-      rest g q first (got l j) others h =
-          let next = others l j refl in
-          let whole : join g l ≡ f = cc in
-          let left : j ≡ r = cc in
-          ((g, l, sym whole, first .0, next .0), first .1 ∙ rw (next .1, left, ← whole, words-join, append-assoc))
-
-      go : Reads (framesIn n p) (Many P n) → (o : Reading) → p ws ≡ o → andThen o (λ g q. andThen (framesIn n p q) (λ l j. got (join g l) j)) ≡ got f r
-          → Many P (suc n) f × (ws ≡ words f ++ r)
-      go ih unfit read h = unread f r h
-      go ih (got g q) read h = rest g q (each ws g q read) (framesIn n p q) (ih q) h
-
-  item-of : (P : Forest → Type 0) (k a b c sp w : ℕ) (ws : List ℕ) (f : Forest) (r : List ℕ) (o : Reading)
-      → ((g : Forest) (q : List ℕ) → o ≡ got g q → Many P (kids (nodeOf k a b c w)) g × (ws ≡ words g ++ q))
-      → pick (fits (nodeOf k a b c w)) (itemIn (nodeOf k a b c w) sp o) unfit ≡ got f r → Over P f × ((k ∷ a ∷ b ∷ c ∷ sp ∷ w ∷ ws) ≡ words f ++ r)
-  item-of P k a b c sp w ws f r o below e = go (fits h) refl o below e
-    where
-      h : Node
-      h = nodeOf k a b c w
-
-      spans : (g : Forest) (q : List ℕ) → fits h ≡ true → Many P (kids h) g × (ws ≡ words g ++ q) → (x : Bool) → eqb sp (span g + 1) ≡ x
-          → pick x (got (item h g end) q) unfit ≡ got f r → Over P f × ((k ∷ a ∷ b ∷ c ∷ sp ∷ w ∷ ws) ≡ words f ++ r)
-      spans g q fit m true x e =
-          let whole : item h g end ≡ f = cc in
-          let left : q ≡ r = cc in
-          (record { top = h; below = g; is = sym whole; fit = fit; many = m .0 }, rw (m .1, left, ← whole, eqb-true sp (span g + 1) x, words-item h g))
-      spans g q fit m false x e = unread f r e
-
-      go : (x : Bool) → fits h ≡ x → (o : Reading) → ((g : Forest) (q : List ℕ) → o ≡ got g q → Many P (kids h) g × (ws ≡ words g ++ q))
-          → pick x (itemIn h sp o) unfit ≡ got f r → Over P f × ((k ∷ a ∷ b ∷ c ∷ sp ∷ w ∷ ws) ≡ words f ++ r)
-      go false x o below e = unread f r e
-      go true x unfit below e = unread f r e
-      go true x (got g q) below e = spans g q x (below g q refl) (eqb sp (span g + 1)) refl e
-
-  frame-of : (d : ℕ) → Reads (frameIn fits kids d) (Framed d)
-  unfolding frameIn
-  frame-of zero ws f r e = unread f r e
-  frame-of (suc d) [] f r e = unread f r e
-  frame-of (suc d) (k ∷ []) f r e = unread f r e
-  frame-of (suc d) (k ∷ a ∷ []) f r e = unread f r e
-  frame-of (suc d) (k ∷ a ∷ b ∷ []) f r e = unread f r e
-  frame-of (suc d) (k ∷ a ∷ b ∷ c ∷ []) f r e = unread f r e
-  frame-of (suc d) (k ∷ a ∷ b ∷ c ∷ sp ∷ []) f r e = unread f r e
-  frame-of (suc d) (k ∷ a ∷ b ∷ c ∷ sp ∷ w ∷ ws) f r e =
-      item-of (Framed d) k a b c sp w ws f r (framesIn (kids (nodeOf k a b c w)) (frameIn fits kids d) ws)
-      (frames-of (frameIn fits kids d) (Framed d) (frame-of d) (kids (nodeOf k a b c w)) ws) e
-
-  -- and the words of such a frame are read as it
-  frames-in : (p : List ℕ → Reading) (P : Forest → Type 0) → ((f : Forest) (r : List ℕ) → P f → p (words f ++ r) ≡ got f r)
-      → (n : ℕ) (g : Forest) (r : List ℕ) → Many P n g → framesIn n p (words g ++ r) ≡ got g r
-  unfolding framesIn words
-  frames-in p P each zero g r e = rw e
-  frames-in p P each (suc n) g r (f, l, e, first, others) =
-      rw (e, words-join f l, append-assoc (words f) (words l) r, each f (words l ++ r) first, frames-in p P each n l r others)
-
-  frame-in : (d : ℕ) (f : Forest) (r : List ℕ) → Framed d f → frameIn fits kids d (words f ++ r) ≡ got f r
-  unfolding frameIn
-  frame-in zero f r h = absurd h
-  frame-in (suc d) f r h =
-      rw (h .is, words-item (h .top) (h .below), h .fit, frames-in (frameIn fits kids d) (Framed d) (frame-in d) (kids (h .top)) (h .below) r (h .many))
-      (rw (eq-eqb (span (h .below) + 1) (span (h .below) + 1) refl))
-
 -- ---- rows that fit
 
 module _ (s : List ℕ) where
@@ -185,13 +78,13 @@ module _ (s : List ℕ) where
   row-of : (k a b c w : ℕ) → rowFits resp2 s (nodeOf k a b c w) ≡ true → Row (nodeOf k a b c w)
   unfolding rowFits
   row-of k a b c w e =
-      let both = and-split (eqb w 0) _ e in
+      let both = and-eq-true-iff (eqb w 0) _ .0 e in
       rw (eqb-true w 0 (both .0)) (go (eqb k SimpleString) (eqb k SimpleError) (eqb k BlobString) (eqb k Number) (eqb k Null) refl refl refl refl refl (both .1))
     where
       inside : (leb a b && leb b (length s) && eqb c 0) ≡ true → (a ≤ b) × (b ≤ length s) × (c ≡ 0)
       inside t =
-          let outer = and-split (leb a b && leb b (length s)) (eqb c 0) t in
-          let inner = and-split (leb a b) (leb b (length s)) (outer .0) in
+          let outer = and-eq-true-iff (leb a b && leb b (length s)) (eqb c 0) .0 t in
+          let inner = and-eq-true-iff (leb a b) (leb b (length s)) .0 (outer .0) in
           (leb-true a b (inner .0), leb-true b (length s) (inner .1), eqb-true c 0 (outer .1))
 
       go : (x₁ x₂ x₇ x₃ x₆ : Bool) → eqb k SimpleString ≡ x₁ → eqb k SimpleError ≡ x₂ → eqb k BlobString ≡ x₇ → eqb k Number ≡ x₃ → eqb k Null ≡ x₆
@@ -201,15 +94,15 @@ module _ (s : List ℕ) where
       go false true x₇ x₃ x₆ e₁ e₂ e₇ e₃ e₆ t = let l = inside t in rw (eqb-true k SimpleError e₂, l .2) (error a b (l .0) (l .1))
       go false false true x₃ x₆ e₁ e₂ e₇ e₃ e₆ t = let l = inside t in rw (eqb-true k BlobString e₇, l .2) (blob a b (l .0) (l .1))
       go false false false true x₆ e₁ e₂ e₇ e₃ e₆ t =
-          let l = and-split (eqb b 0) (eqb c 0) t in
+          let l = and-eq-true-iff (eqb b 0) (eqb c 0) .0 t in
           rw (eqb-true k Number e₃, eqb-true b 0 (l .0), eqb-true c 0 (l .1)) (number a)
       go false false false false true e₁ e₂ e₇ e₃ e₆ t =
-          let l = and-split (eqb a 0 && eqb b 0) (eqb c 0) t in
-          let m = and-split (eqb a 0) (eqb b 0) (l .0) in
+          let l = and-eq-true-iff (eqb a 0 && eqb b 0) (eqb c 0) .0 t in
+          let m = and-eq-true-iff (eqb a 0) (eqb b 0) .0 (l .0) in
           rw (eqb-true k Null e₆, eqb-true a 0 (m .0), eqb-true b 0 (m .1), eqb-true c 0 (l .1)) null
       go false false false false false e₁ e₂ e₇ e₃ e₆ t =
-          let l = and-split (eqb k Array && eqb a 0) (eqb b 0) t in
-          let m = and-split (eqb k Array) (eqb a 0) (l .0) in
+          let l = and-eq-true-iff (eqb k Array && eqb a 0) (eqb b 0) .0 t in
+          let m = and-eq-true-iff (eqb k Array) (eqb a 0) .0 (l .0) in
           rw (eqb-true k Array (m .0), eqb-true a 0 (m .1), eqb-true b 0 (l .1)) (array c)
 
   fits-of : {h : Node} → Row h → rowFits resp2 s h ≡ true
@@ -525,12 +418,12 @@ module _ (s buf : List ℕ) where
         kinds = refl;
         thirds = refl;
         attributes = refl;
-        values = λ z. untrue (sym kind ∙ z);
+        values = λ z. absurd (true≢false (sym kind ∙ z));
         texts = λ z. (omega arith, inside, rw (whole, e) (take-at (take (b - a) (drop a s)) (crlf ++ rest) (b - a) size));
       }
 
   value-same : (h : Node) → hasText (h .kind) ≡ false → SameRow s buf h h
-  value-same h kind = record { kinds = refl; thirds = refl; attributes = refl; values = λ z. (refl, refl); texts = λ z. untrue (sym z ∙ kind) }
+  value-same h kind = record { kinds = refl; thirds = refl; attributes = refl; values = λ z. (refl, refl); texts = λ z. absurd (true≢false (sym z ∙ kind)) }
 
   -- behind a type byte
   behind-type : (b at : ℕ) (t rest : List ℕ) → drop at buf ≡ (b ∷ (t ++ crlf)) ++ rest → drop (at + 1) buf ≡ t ++ (crlf ++ rest)
@@ -696,7 +589,7 @@ line-split (a ∷ b ∷ l) n e = go (eqb a CR && eqb b LF) refl (lineLen (b ∷ 
         → pick x (some 2) (up o) ≡ some n → (t : List ℕ) × (a ∷ b ∷ l ≡ t ++ (crlf ++ drop n (a ∷ b ∷ l))) × (n ≡ length t + 2)
     go true x o ih q =
         let two : 2 ≡ n = some-inj q in
-        let ends = and-split (eqb a CR) (eqb b LF) x in
+        let ends = and-eq-true-iff (eqb a CR) (eqb b LF) .0 x in
         ([], rw (← two, eqb-true a CR (ends .0), eqb-true b LF (ends .1)), sym two)
     go false x none ih q = none≢some q
     go false x (some m) ih q =
@@ -756,15 +649,6 @@ kind2-cases P other one two three seven thirteen b =
     each : (c k : ℕ) {j : ℕ} → P c k → P b j → P b (pick (eqb c b) k j)
     each c k p q = either c k p q (eqb c b) refl
 
--- the bytes of a row with a text
-line-text : (s : List ℕ) (k a b : ℕ) → isLine k ≡ true → lineOf resp2 s false (nodeOf k a b 0 0) ≡ lineFor resp2 k (take (b - a) (drop a s))
-unfolding lineOf
-line-text s k a b e = rw e
-
-line-blob : (s : List ℕ) (a b : ℕ) → lineOf resp2 s false (nodeOf BlobString a b 0 0) ≡ bulkFor resp2 BlobString (take (b - a) (drop a s))
-unfolding lineOf
-line-blob s a b = refl
-
 module _ (s : List ℕ) (at : ℕ) where
   -- A row that was read at a place, up to n: it fits, it ends there, and spelled as the encoder spells its bytes are the encoder's.
   record Headed (h : Node) (n : ℕ) : Type 0 where
@@ -790,7 +674,7 @@ module _ (s : List ℕ) (at : ℕ) where
         record {
           row = row;
           ends = line-ends (nodeOf k (at + 1) (at + 1 + length t) 0 0) other;
-          bytes = λ z. line-bytes ∙ rw (line-text s k (at + 1) (at + 1 + length t) kind, text, byte);
+          bytes = λ z. line-bytes ∙ rw (text-line resp2 s false (nodeOf k (at + 1) (at + 1 + length t) 0 0) kind, text, byte);
         }
 
     number-headed : (w : ℕ) → b ≡ code ":" → Headed (nodeOf Number w 0 0 0) n
@@ -815,7 +699,7 @@ module _ (s : List ℕ) (at : ℕ) where
       row = null;
       ends = line-ends (nodeOf Null 0 0 0 0) refl;
       bytes = λ z.
-          let both = and-split (eqb (getD s at 0) (code "$")) (same (lineAt s (at + 1)) (codes "-1")) z in
+          let both = and-eq-true-iff (eqb (getD s at 0) (code "$")) (same (lineAt s (at + 1)) (codes "-1")) .0 z in
           line-bytes ∙ rw (sym byte ∙ eqb-true (getD s at 0) (code "$") (both .0), sym (o .is) ∙ same-true (lineAt s (at + 1)) (codes "-1") (both .1));
     }
 
@@ -834,7 +718,7 @@ module _ (s : List ℕ) (at : ℕ) where
 
         blob-bytes : spelledRow s at (nodeOf BlobString n (n + m) 0 0) ≡ true → drop at s ≡ lineOf resp2 s false (nodeOf BlobString n (n + m) 0 0) ++ drop (n + (m + 2)) s
         blob-bytes z =
-            let both = and-split (same (lineAt s (at + 1)) (shown (digitsOf (n + m - n)))) (same (take 2 (drop (n + m) s)) crlf) z in
+            let both = and-eq-true-iff (same (lineAt s (at + 1)) (shown (digitsOf (n + m - n)))) (same (take 2 (drop (n + m) s)) crlf) .0 z in
             let left : List ℕ = drop (n + (m + 2)) s in
             let after : drop (n + m) s ≡ crlf ++ left =
             sym (take-append-drop 2 (drop (n + m) s)) ∙ rw (same-true (take 2 (drop (n + m) s)) crlf (both .1), drop-drop 2 (n + m) s, add-assoc n m 2)
@@ -847,7 +731,7 @@ module _ (s : List ℕ) (at : ℕ) where
             ∙ ap (λ (x : List ℕ). x ++ drop n s) head
             ∙ ap (λ (x : List ℕ). count ++ x) (rest ∙ sym (append-assoc text crlf left))
             ∙ sym (append-assoc count (text ++ crlf) left)
-            ∙ rw (line-blob s n (n + m), whole)
+            ∙ rw (blob-line resp2 s false (nodeOf BlobString n (n + m) 0 0) refl, whole)
 
 -- what a head's run gives
 module _ (s : List ℕ) (lim at used : ℕ) where
@@ -953,7 +837,7 @@ module _ (s : List ℕ) where
   told-join {at} {n} {m} f g x y = record {
     ends = behind-join at f g ∙ rw (x .ends) (y .ends);
     bytes = λ z.
-        let both = and-split (spelled s at f) (spelled s (behind s at f) g) (sym (spelled-join at f g) ∙ z) in
+        let both = and-eq-true-iff (spelled s at f) (spelled s (behind s at f) g) .0 (sym (spelled-join at f g) ∙ z) in
         let next : drop n s ≡ encoded resp2 s false g ++ drop m s = y .bytes (ap (λ (k : ℕ). spelled s k g) (sym (x .ends)) ∙ both .1) in
         x .bytes (both .0) ∙ rw (next, encoded-join resp2 s false f g, append-assoc (encoded resp2 s false f) (encoded resp2 s false g) (drop m s));
   }
@@ -963,8 +847,8 @@ module _ (s : List ℕ) where
   told-item {at} {n} {m} h g x y = record {
     ends = rw (x .ends) (y .ends);
     bytes = λ z.
-        let outer = and-split (spelledRow s at h && spelled s (behindRow s at h) g) true z in
-        let both = and-split (spelledRow s at h) (spelled s (behindRow s at h) g) (outer .0) in
+        let outer = and-eq-true-iff (spelledRow s at h && spelled s (behindRow s at h) g) true .0 z in
+        let both = and-eq-true-iff (spelledRow s at h) (spelled s (behindRow s at h) g) .0 (outer .0) in
         let next : drop n s ≡ encoded resp2 s false g ++ drop m s = y .bytes (ap (λ (k : ℕ). spelled s k g) (sym (x .ends)) ∙ both .1) in
         x .bytes (both .0) ∙ rw (next, encoded-item resp2 s false h g, append-assoc (lineOf resp2 s false h) (encoded resp2 s false g) (drop m s));
   }

@@ -1,7 +1,7 @@
 -- What the round trips speak of: texts that a line can hold, frames that are the same but for where their texts stand, and bytes that are spelled as the encoder spells.
 use mathlib.Core.Path.{_≡_}
 use mathlib.Core.List.{List}
-use mathlib.Core.Bool.{Bool, true, false, _&&_, _||_}
+use mathlib.Core.Bool.{Bool, true, false, _&&_}
 use mathlib.Core.Option.{Option, none, some}
 use Prim.Native.Nat.{ℕ, _+_, _-_, _^_, _≤_, _<_}
 use Prim.Native.Char.{code}
@@ -10,18 +10,10 @@ use lib.Dec.{eqb}
 use Rattle.meaning.specs.Choice.{pick}
 use Rattle.meaning.specs.Demand.{lineLen}
 use Rattle.meaning.specs.Text.{codes, same}
-use Rattle.meaning.specs.Kinds.{resp2, typeByte, SimpleString, SimpleError, Number, Null, BlobString, Array}
+use Rattle.meaning.specs.Kinds.{resp2, typeByte, Number, Null, BlobString, Array}
 use Rattle.meaning.specs.Rows.{Node, nodeOf, Forest, end, item}
 use Rattle.meaning.specs.Digits.{digitsOf, signedDigitsOf, shown}
-use Rattle.meaning.specs.Encode.{crlf, countFor, integerText, textIn, lineOf, encoded}
-
--- kinds whose text is a line
-abbrev pub isLine : ℕ → Bool
-isLine k = eqb k SimpleString || eqb k SimpleError
-
--- kinds whose row has a text
-abbrev pub hasText : ℕ → Bool
-hasText k = isLine k || eqb k BlobString
+use Rattle.meaning.specs.Encode.{isLine, hasText, crlf, countFor, integerText, textIn, lineOf, encoded}
 
 -- ---- encode, then decode (RULES 5.6)
 

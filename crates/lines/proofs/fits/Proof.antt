@@ -3,7 +3,8 @@ use mathlib.Core.Path.{_≡_, sym, _∙_}
 use mathlib.Core.Bool.{true, false, and-true, and-false}
 use borrow.Author.Needs.{needs}
 use borrow.Author.Tests.{eq-eqb, ne-eqb}
-use Rattle.lines.specs.Fits.{hasText, marked-fits, text-fits, number-fits, null-fits, array-fits, other-fits}
+use Rattle.meaning.specs.Encode.{hasText}
+use Rattle.lines.specs.Fits.{marked-fits, text-fits, number-fits, null-fits, array-fits, other-fits}
 use Rattle.lines.proofs.fits.Statement.{statement}
 use Rattle.lines.proofs.fits.Tie as tie
 

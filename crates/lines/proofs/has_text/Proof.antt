@@ -2,7 +2,7 @@
 use mathlib.Core.Path.{_≡_, sym, _∙_}
 use mathlib.Core.Bool.{true, false}
 use borrow.Author.Needs.{needs}
-use Rattle.lines.specs.Fits.{isLine}
+use Rattle.meaning.specs.Encode.{isLine}
 use Rattle.lines.proofs.has_text.Statement.{statement}
 use Rattle.lines.proofs.has_text.Tie as tie
 

@@ -6,7 +6,8 @@ use native.Mathlib.Omega.{arith}
 use lib.ListN.{length}
 use Rattle.meaning.specs.Digits.{digitsOf, shown, signedWord}
 use Rattle.meaning.specs.DigitLaws.{shown-most, signed-most}
-use Rattle.lines.specs.Fits.{isLine, hasText, text-lies, line-lies}
+use Rattle.meaning.specs.Encode.{isLine, hasText}
+use Rattle.lines.specs.Fits.{text-lies, line-lies}
 use Rattle.lines.specs.LineLaws.{bulk-integer-size, integer-size, array-size, text-size, blob-size, null-line}
 use borrow.Author.Needs.{needs}
 use Rattle.lines.proofs.length.Statement.{statement}

@@ -7,10 +7,11 @@ use native.Mathlib.Omega.{arith}
 use lib.ListN.{length}
 use lib.Seq.{sets}
 use Rattle.meaning.specs.Kinds.{resp2, BlobString}
-use Rattle.meaning.specs.Encode.{lineOf, textIn, crlf}
+use Rattle.meaning.specs.Encode.{isLine, hasText, lineOf, textIn, crlf}
+use Rattle.meaning.specs.EncodeLaws.{text-line, integer-line, bulk-integer-line, blob-line, length-line, length-bulk}
 use Rattle.rows.specs.Put.{nodeIn}
-use Rattle.lines.specs.Fits.{isLine, hasText, text-lies, line-lies}
-use Rattle.lines.specs.LineLaws.{nullLine, text-line, integer-line, bulk-integer-line, blob-line, array-line, null-line, line-length, bulk-length, bulk-integer-size, integer-size, array-size}
+use Rattle.lines.specs.Fits.{text-lies, line-lies}
+use Rattle.lines.specs.LineLaws.{nullLine, array-bytes, null-line, bulk-integer-size, integer-size, array-size}
 use Rattle.lines.specs.Puts.{Puts, puts-as}
 use borrow.Author.Needs.{needs}
 use Rattle.lines.proofs.put.Statement.{statement}
@@ -33,7 +34,7 @@ returns : tie.Need-returns
 returns c =
     let p = c .before .before in
     let f = p .before .before in
-    told (bulk-integer-line _ _ _ (f .before .if1 .taken) (f .if2 .taken)) (p .put-bulk-integer .ensures)
+    told (bulk-integer-line resp2 _ _ _ (f .before .if1 .taken) (f .if2 .taken)) (p .put-bulk-integer .ensures)
 
 put-integer-requires : tie.Need-put-integer-requires
 put-integer-requires c κs =
@@ -48,7 +49,7 @@ returns-2 : tie.Need-returns-2
 returns-2 c =
     let p = c .before .before in
     let f = p .before .before in
-    told (integer-line _ _ _ (f .before .if1 .taken) (f .if2 .left)) (p .put-integer .ensures)
+    told (integer-line resp2 _ _ _ (f .before .if1 .taken) (f .if2 .left)) (p .put-integer .ensures)
 
 put-count-requires : tie.Need-put-count-requires
 put-count-requires c κs =
@@ -62,7 +63,7 @@ same-length-3 c = search needs
 returns-3 : tie.Need-returns-3
 returns-3 c =
     let p = c .before .before in
-    told (array-line _ _ _ (p .before .before .if3 .taken)) (p .put-count .ensures)
+    told (array-bytes _ _ _ (p .before .before .if3 .taken)) (p .put-count .ensures)
 
 -- where the call began, of a row that is no number and no array
 abbrev start : tie.After-struct-known3 → tie.Start
@@ -89,7 +90,7 @@ put-bulk-requires c κs =
     let k = c .before .before in
     let s = start (k .before) in
     let h = nodeIn (s .args .r) in
-    omega (arith, s .pre .1, ap length (blob-line (s .args .s .now) (s .args .flag) h (k .if4 .taken)), bulk-length BlobString (textIn (s .args .s .now) h))
+    omega (arith, s .pre .1, ap length (blob-line resp2 (s .args .s .now) (s .args .flag) h (k .if4 .taken)), length-bulk resp2 BlobString (textIn (s .args .s .now) h))
 
 same-length-4 : tie.Need-same-length-4
 same-length-4 c = search needs
@@ -97,7 +98,7 @@ same-length-4 c = search needs
 returns-4 : tie.Need-returns-4
 returns-4 c =
     let p = c .before .before in
-    told (blob-line _ _ _ (p .before .before .before .if4 .taken)) (p .put-bulk .ensures)
+    told (blob-line resp2 _ _ _ (p .before .before .before .if4 .taken)) (p .put-bulk .ensures)
 
 is-line-requires : tie.Need-is-line-requires
 is-line-requires c κs = search needs
@@ -128,7 +129,7 @@ put-line-requires c κs =
     let k = c .before .before .before in
     let s = start (k .before .before .before) in
     let h = nodeIn (s .args .r) in
-    omega (arith, s .pre .1, ap length (text-line (s .args .s .now) (s .args .flag) h (yes k)), line-length (h .kind) (textIn (s .args .s .now) h))
+    omega (arith, s .pre .1, ap length (text-line resp2 (s .args .s .now) (s .args .flag) h (yes k)), length-line resp2 (h .kind) (textIn (s .args .s .now) h))
 
 same-length-5 : tie.Need-same-length-5
 same-length-5 c = search needs
@@ -140,7 +141,7 @@ returns-5 c =
     let k = b .before .before in
     let s = start (k .before .before .before) in
     let text = textIn (s .args .s .now) (nodeIn (s .args .r)) in
-    told (text-line _ _ _ (yes k)) (puts-as (ap (λ (t : ℕ). t ∷ (text ++ crlf)) (b .line-byte .ensures)) (p .put-line .ensures))
+    told (text-line resp2 _ _ _ (yes k)) (puts-as (ap (λ (t : ℕ). t ∷ (text ++ crlf)) (b .line-byte .ensures)) (p .put-line .ensures))
 
 -- no other kind is left
 null : (c : tie.Else5) → let s = start (c .before .before .before) in lineOf resp2 (s .args .s .now) (s .args .flag) (nodeIn (s .args .r)) ≡ nullLine

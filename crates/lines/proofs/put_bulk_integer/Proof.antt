@@ -5,10 +5,10 @@ use Prim.Native.Nat.{ℕ}
 use Prim.Native.Char.{code}
 use native.Mathlib.Omega.{arith}
 use lib.ListN.{length}
-use Rattle.meaning.specs.Kinds.{typeByte, byteIn, BlobString}
+use Rattle.meaning.specs.Kinds.{resp2, typeByte, byteIn, BlobString}
 use Rattle.meaning.specs.Digits.{digitsOf, shown}
 use Rattle.meaning.specs.Encode.{integerText, crlf}
-use Rattle.lines.specs.LineLaws.{line-length}
+use Rattle.meaning.specs.EncodeLaws.{length-line}
 use Rattle.lines.specs.Puts.{puts-more, puts-as}
 use borrow.Author.Needs.{needs}
 use Rattle.lines.proofs.put_bulk_integer.Statement.{statement}
@@ -31,7 +31,7 @@ put-number-requires c κs =
     omega (
       arith,
       p .put-count .ensures .next,
-      line-length BlobString (shown (digitsOf (p .before .integer-width .result))),
+      length-line resp2 BlobString (shown (digitsOf (p .before .integer-width .result))),
       ap (λ (m : ℕ). length (shown (digitsOf m))) (counted p),
     )
 
@@ -43,7 +43,7 @@ put-end-requires c κs =
       arith,
       q .put-number .ensures .next,
       p .put-count .ensures .next,
-      line-length BlobString (shown (digitsOf (p .before .integer-width .result))),
+      length-line resp2 BlobString (shown (digitsOf (p .before .integer-width .result))),
       ap (λ (m : ℕ). length (shown (digitsOf m))) (counted p),
     )
 
