@@ -26,6 +26,9 @@ const BLOB_STRING: u64 = kinds::BLOB_STRING as u64;
 
 const ARRAY: u64 = kinds::ARRAY as u64;
 
+// From how many bytes on a text is long.
+const LONG: usize = 1024;
+
 // Whether a kind is a text on a line of its own.
 fn is_line(kind: u64) -> bool
     ensures { λ r. ⌜ r ≡ isLine kind ⌝ }
@@ -161,13 +164,27 @@ fn put_end(out: &mut [u8], at: usize) -> usize
     at + 2
 }
 
-fn put_text(out: &mut [u8], at: usize, text: &[u8]) -> usize
+fn put_bytes(out: &mut [u8], at: usize, text: &[u8]) -> usize
     requires { ⌜ at + length (now text) ≤ length (now out) ⌝ }
     ensures { λ r. ⌜ Puts (now (text .entry)) (now (out .entry)) at (now (out .exit)) r ⌝ }
 {
     let end = at + text.len();
     bytes::copy(text, &mut out[at..end]);
     end
+}
+
+// A text that stands at `from` in its source. A long one is copied up to the source's next multiple of 16 first: where
+// the source itself begins at one, as lent memory mostly does, the loads from there on cross no cache line.
+fn put_text(out: &mut [u8], at: usize, text: &[u8], from: usize) -> usize
+    requires { ⌜ at + length (now text) ≤ length (now out) ⌝ }
+    ensures { λ r. ⌜ Puts (now (text .entry)) (now (out .entry)) at (now (out .exit)) r ⌝ }
+{
+    if text.len() < LONG {
+        return put_bytes(out, at, text);
+    }
+    let head = 16 - from % 16;
+    let p = put_bytes(out, at, &text[..head]);
+    put_bytes(out, p, &text[head..])
 }
 
 // The digits of n, from the last one on: no table of digits is built for a row.
@@ -210,12 +227,12 @@ fn line_byte(kind: u64) -> u8
 }
 
 // A type byte and a line.
-fn put_line(out: &mut [u8], at: usize, b: u8, text: &[u8]) -> usize
+fn put_line(out: &mut [u8], at: usize, b: u8, text: &[u8], from: usize) -> usize
     requires { ⌜ at + (length (now text) + 3) ≤ length (now out) ⌝ }
     ensures { λ r. ⌜ Puts (b ∷ (now (text .entry) ++ crlf)) (now (out .entry)) at (now (out .exit)) r ⌝ }
 {
     let p = put_byte(out, at, b);
-    let q = put_text(out, p, text);
+    let q = put_text(out, p, text, from);
     put_end(out, q)
 }
 
@@ -230,12 +247,12 @@ fn put_count(out: &mut [u8], at: usize, b: u8, n: u64) -> usize
 }
 
 // A bulk string: its length, and the text.
-fn put_bulk(out: &mut [u8], at: usize, text: &[u8]) -> usize
+fn put_bulk(out: &mut [u8], at: usize, text: &[u8], from: usize) -> usize
     requires { ⌜ at + (length (shown (digitsOf (length (now text)))) + length (now text) + 5) ≤ length (now out) ⌝ }
     ensures { λ r. ⌜ Puts (bulkFor resp2 BlobString (now (text .entry))) (now (out .entry)) at (now (out .exit)) r ⌝ }
 {
     let p = put_count(out, at, b'$', text.len() as u64);
-    let q = put_text(out, p, text);
+    let q = put_text(out, p, text, from);
     put_end(out, q)
 }
 
@@ -288,10 +305,10 @@ pub fn put(out: &mut [u8], at: usize, s: &[u8], r: Row, flag: bool) -> usize
     let from = r.w1 as usize;
     let to = r.w2 as usize;
     if r.kind == BLOB_STRING {
-        return put_bulk(out, at, &s[from..to]);
+        return put_bulk(out, at, &s[from..to], from);
     }
     if is_line(r.kind) {
-        return put_line(out, at, line_byte(r.kind), &s[from..to]);
+        return put_line(out, at, line_byte(r.kind), &s[from..to], from);
     }
     put_null(out, at)
 }
