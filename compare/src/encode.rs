@@ -14,13 +14,13 @@ use redis_protocol::resp2::types::Resp2Frame;
 use std::time::Instant;
 
 #[derive(Default)]
-struct Count {
+pub struct Count {
     tables: u64,
     encodable: u64,
     outside: u64,
     a3: u64,
-    differences: u64,
-    smallest: Option<(Vec<u64>, String)>,
+    pub differences: u64,
+    pub smallest: Option<(Vec<u64>, String)>,
 }
 
 impl Count {
@@ -35,7 +35,7 @@ impl Count {
 const MINE: u8 = 0xa7;
 
 /// One table: the length query, then output of the right length, one short, and with room to spare.
-fn hold(count: &mut Count, src: &[u8], table: &[u64], flag: bool, theirs: &mut Vec<u8>) {
+pub fn hold(count: &mut Count, src: &[u8], table: &[u64], flag: bool, theirs: &mut Vec<u8>) {
     count.tables += 1;
     let rows = (table.len() / 6).min(4096);
     let said = resp2_length(src, table, flag);

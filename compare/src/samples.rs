@@ -101,11 +101,21 @@ fn is_theirs(protocol: Protocol, buf: &[u8], said: &Answer) -> bool {
     })
 }
 
+/// The lines that are samples or reasons why there is none.
+fn lines() -> impl Iterator<Item = &'static str> {
+    SAMPLES.lines().filter(|l| !l.is_empty() && !l.starts_with('#'))
+}
+
+/// The buffers of all samples.
+pub fn buffers() -> impl Iterator<Item = Vec<u8>> {
+    lines().filter(|l| !l.starts_with("none ")).map(|l| buffer(l.split('`').nth(1).unwrap()))
+}
+
 pub fn put(list: &mut List) {
     // each decoder, refusal and place that has a sample, and each that has a reason why not
     let mut met: HashSet<(u8, u16, &str)> = HashSet::new();
     let mut never: HashSet<(u8, u16, &str)> = HashSet::new();
-    for text in SAMPLES.lines().filter(|l| !l.is_empty() && !l.starts_with('#')) {
+    for text in lines() {
         if let Some(none) = text.strip_prefix("none ") {
             let words: Vec<&str> = none.split_once(':').unwrap().0.split(' ').collect();
             for d in decoders(words[0]) {
