@@ -28,7 +28,7 @@ enum { AROUND = 16 };
 /* More rows than count. */
 enum { LENT_ROWS = IMRAZGUL_MOST_ROWS + 4 };
 
-typedef imrazgul_decoded decoder(const uint8_t *src, size_t src_len, uint64_t *table, size_t words);
+typedef struct imrazgul_decoded decoder(const uint8_t *src, size_t src_len, uint64_t *table, size_t words);
 
 /* src_len bytes of src decoded into a table of so many words. Where src goes on behind src_len, one byte more would
  * change the answer. */
@@ -232,6 +232,72 @@ static void rows_that_count(const char *call, decoder *decode) {
     }
 }
 
+/* ---- decoders from a place ---- */
+
+typedef struct imrazgul_decoded decoder_at(const uint8_t *src, size_t src_len, size_t at, uint64_t *table,
+                                           size_t words);
+
+static int is_text(uint64_t kind) {
+    return kind == 1 || kind == 2 || kind == 4 || (7 <= kind && kind <= 11) || (20 <= kind && kind <= 22);
+}
+
+/* From a place on, what the call without a place gives of the rest, with the offsets of texts moved. */
+static void decodes_at(const char *call, decoder_at *decode_at, decoder *decode, size_t number,
+                       const struct decode_case *c, size_t at) {
+    static uint64_t lent[AROUND + 6 * LENT_ROWS + AROUND], want[COUNT(lent)];
+    const uint8_t *src = (const uint8_t *)c->src;
+    size_t from = at < c->src_len ? at : c->src_len;
+    for (size_t i = 0; i < AROUND + c->words + AROUND; i++) {
+        lent[i] = want[i] = mark(i);
+    }
+    imrazgul_decoded alone = decode(src + from, c->src_len - from, want + AROUND, c->words);
+    imrazgul_decoded got = decode_at(src, c->src_len, at, lent + AROUND, c->words);
+    same(call, number, "answer", got.answer, alone.answer);
+    same(call, number, "refusal", got.refusal, alone.refusal);
+    same(call, number, "consumed", got.consumed, alone.consumed);
+    same(call, number, "rows", got.rows, alone.rows);
+    for (size_t row = 0; row < alone.rows; row++) {
+        uint64_t *words = want + AROUND + 6 * row;
+        if (is_text(words[0])) {
+            words[1] += from;
+            words[2] += from;
+        }
+    }
+    for (size_t i = 0; i < AROUND + c->words + AROUND; i++) {
+        same(call, number, "a word from a place", lent[i], want[i]);
+    }
+}
+
+/* From each place of each case's source, at its end and behind it. */
+static void all_places(const char *call, decoder_at *decode_at, decoder *decode, const struct decode_case *cases,
+                       size_t count) {
+    for (size_t i = 0; i < count; i++) {
+        const size_t behind[] = {1, 2, 100, SIZE_MAX / 2, SIZE_MAX - cases[i].src_len};
+        for (size_t at = 0; at <= cases[i].src_len; at++) {
+            decodes_at(call, decode_at, decode, i, &cases[i], at);
+        }
+        for (size_t j = 0; j < COUNT(behind); j++) {
+            decodes_at(call, decode_at, decode, i, &cases[i], cases[i].src_len + behind[j]);
+        }
+    }
+}
+
+/* Frames one after another; all_places looks at no more of a case than its source and its words. */
+#define PIPELINE(src) \
+    { src, sizeof(src) - 1, 30, UNFINISHED, NONE }
+static const struct decode_case pipelines[] = {
+    PIPELINE("+OK\r\n:-7\r\n*2\r\n$2\r\nhi\r\n*1\r\n-no\r\n$-1\r\n$3\r\nend\r\n"),
+    PIPELINE("|1\r\n+a\r\n:1\r\n$2\r\nhi\r\n%1\r\n,1.5\r\n=5\r\ntxt:x\r\nHELLO 2 AUTH u p\r\n$?\r\n;1\r\nx\r\n.\r\n"),
+    PIPELINE("\r\n\r\n+\r\n?*1\r\n"),
+};
+
+static void places(const char *call, decoder_at *decode_at, decoder *decode) {
+    all_places(call, decode_at, decode, resp2, COUNT(resp2));
+    all_places(call, decode_at, decode, resp3, COUNT(resp3));
+    all_places(call, decode_at, decode, resp3_streaming, COUNT(resp3_streaming));
+    all_places(call, decode_at, decode, pipelines, COUNT(pipelines));
+}
+
 /* ---- the encoder ---- */
 
 /* A table of so many words, its texts in src: the bytes that it is written as, or the refusal. */
@@ -415,6 +481,17 @@ static void null_decodes(const char *call, decoder *decode) {
     }
 }
 
+static void null_decodes_at(const char *call, decoder_at *decode_at) {
+    const size_t at[] = {0, 1, SIZE_MAX};
+    for (size_t i = 0; i < COUNT(at); i++) {
+        uint64_t table[6];
+        imrazgul_decoded got = decode_at(NULL, 0, at[i], table, 6);
+        same(call, i, "the answer without a source", got.answer, IMRAZGUL_UNFINISHED);
+        got = decode_at(NULL, 0, at[i], NULL, 0);
+        same(call, i, "the refusal without a source and a table", got.refusal, IMRAZGUL_TABLE_FULL);
+    }
+}
+
 /* The encoder too, and for an output without room. */
 static void null_encodes(const char *call) {
     const struct encode_case cases[] = {
@@ -500,6 +577,12 @@ int main(void) {
     depth("imrazgul_resp3_stream by depth", imrazgul_resp3_stream);
     rows_that_count("imrazgul_resp3_stream by rows", imrazgul_resp3_stream);
     null_decodes("imrazgul_resp3_stream of null pointers", imrazgul_resp3_stream);
+    places("imrazgul_resp2_decode_at", imrazgul_resp2_decode_at, imrazgul_resp2_decode);
+    places("imrazgul_resp3_decode_at", imrazgul_resp3_decode_at, imrazgul_resp3_decode);
+    places("imrazgul_resp3_stream_at", imrazgul_resp3_stream_at, imrazgul_resp3_stream);
+    null_decodes_at("imrazgul_resp2_decode_at of null pointers", imrazgul_resp2_decode_at);
+    null_decodes_at("imrazgul_resp3_decode_at of null pointers", imrazgul_resp3_decode_at);
+    null_decodes_at("imrazgul_resp3_stream_at of null pointers", imrazgul_resp3_stream_at);
     for (size_t i = 0; i < COUNT(encode_cases); i++) {
         encodes("imrazgul_resp2_encode", i, &encode_cases[i]);
     }

@@ -78,7 +78,7 @@ enum imrazgul_kind {
 enum imrazgul_answer {
     IMRAZGUL_UNFINISHED = 0, /* more bytes are needed; the table is as it was */
     IMRAZGUL_FRAME = 1,
-    IMRAZGUL_MARKER = 2, /* a streamed value begins; from the calls named stream alone */
+    IMRAZGUL_MARKER = 2, /* a streamed value begins; from imrazgul_resp3_stream and imrazgul_resp3_stream_at alone */
     IMRAZGUL_REFUSED = 3 /* refusal says why; the table is as it was */
 };
 
@@ -133,13 +133,23 @@ typedef struct imrazgul_decoded {
 } imrazgul_decoded;
 
 /* Decodes the RESP2 frame that src begins with, into a table of so many words. */
-imrazgul_decoded imrazgul_resp2_decode(const uint8_t *src, size_t src_len, uint64_t *table, size_t words);
+struct imrazgul_decoded imrazgul_resp2_decode(const uint8_t *src, size_t src_len, uint64_t *table, size_t words);
 
 /* Decodes the RESP3 frame that src begins with; a marker at the top is refused. */
-imrazgul_decoded imrazgul_resp3_decode(const uint8_t *src, size_t src_len, uint64_t *table, size_t words);
+struct imrazgul_decoded imrazgul_resp3_decode(const uint8_t *src, size_t src_len, uint64_t *table, size_t words);
 
 /* The same, and a marker at the top is answered with IMRAZGUL_MARKER. */
-imrazgul_decoded imrazgul_resp3_stream(const uint8_t *src, size_t src_len, uint64_t *table, size_t words);
+struct imrazgul_decoded imrazgul_resp3_stream(const uint8_t *src, size_t src_len, uint64_t *table, size_t words);
+
+/* The three from a place in src on, so that the frames of a pipeline are decoded one after another: consumed is counted
+ * from the place, offsets in the rows from the front of src. Bytes before the place are not looked at; a place behind the
+ * end is like the end. */
+struct imrazgul_decoded imrazgul_resp2_decode_at(const uint8_t *src, size_t src_len, size_t at, uint64_t *table,
+                                                 size_t words);
+struct imrazgul_decoded imrazgul_resp3_decode_at(const uint8_t *src, size_t src_len, size_t at, uint64_t *table,
+                                                 size_t words);
+struct imrazgul_decoded imrazgul_resp3_stream_at(const uint8_t *src, size_t src_len, size_t at, uint64_t *table,
+                                                 size_t words);
 
 /* ---- encode ---- */
 
@@ -151,12 +161,12 @@ typedef struct imrazgul_encoded {
 
 /* Writes the RESP2 frame of row 0 of table, whose texts stand in src, to the front of out; the rest of out is as it
  * was. src and table are only read. With ints_as_bulk, integers are written as bulk strings. */
-imrazgul_encoded imrazgul_resp2_encode(const uint8_t *src, size_t src_len, const uint64_t *table, size_t words,
-                                       bool ints_as_bulk, uint8_t *out, size_t out_len);
+struct imrazgul_encoded imrazgul_resp2_encode(const uint8_t *src, size_t src_len, const uint64_t *table, size_t words,
+                                              bool ints_as_bulk, uint8_t *out, size_t out_len);
 
 /* How many bytes it writes. */
-imrazgul_encoded imrazgul_resp2_length(const uint8_t *src, size_t src_len, const uint64_t *table, size_t words,
-                                       bool ints_as_bulk);
+struct imrazgul_encoded imrazgul_resp2_length(const uint8_t *src, size_t src_len, const uint64_t *table, size_t words,
+                                              bool ints_as_bulk);
 
 /* ---- digits ---- */
 
