@@ -19,6 +19,9 @@ struct text_answer text_call_boolean(const uint8_t *s, size_t n);
 #define SHAPE_imrazgul_resp2_decode DECODE
 #define SHAPE_imrazgul_resp3_decode DECODE
 #define SHAPE_imrazgul_resp3_stream DECODE
+#define SHAPE_imrazgul_resp2_decode_at DECODE_AT
+#define SHAPE_imrazgul_resp3_decode_at DECODE_AT
+#define SHAPE_imrazgul_resp3_stream_at DECODE_AT
 #define SHAPE_imrazgul_resp2_encode ENCODE
 #define SHAPE_imrazgul_resp2_length LENGTH
 #define SHAPE_imrazgul_u64_digits U64_DIGITS

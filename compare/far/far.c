@@ -32,6 +32,11 @@ static void say(uint64_t a, uint64_t b, uint64_t c, uint64_t d) {
         struct imrazgul_decoded d = name(at(0), s->part[0].bytes, at(1), s->part[1].bytes / 8); \
         say(d.answer, d.refusal, d.consumed, d.rows);                                           \
     }
+#define DECODE_AT(name)                                                                                  \
+    {                                                                                                    \
+        struct imrazgul_decoded d = name(at(0), s->part[0].bytes, s->word, at(1), s->part[1].bytes / 8); \
+        say(d.answer, d.refusal, d.consumed, d.rows);                                                    \
+    }
 #define ENCODE(name)                                                                                              \
     {                                                                                                             \
         struct imrazgul_encoded e = name(at(0), s->part[0].bytes, at(1), s->part[1].bytes / 8, s->word != 0, at(2), \

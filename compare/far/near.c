@@ -107,11 +107,12 @@ static void pass(enum call call) {
 
 static void done(void) { pthread_mutex_unlock(&one_at_a_time); }
 
-#define DECODE(name)                                                                                  \
-    struct imrazgul_decoded name(const uint8_t *src, size_t src_len, uint64_t *table, size_t words) { \
+#define DECODES(name, place, ...)                                                                     \
+    struct imrazgul_decoded name(__VA_ARGS__) {                                                       \
         begin();                                                                                      \
         put(0, src, src_len);                                                                         \
         lend(1, table, 8 * words);                                                                    \
+        s->word = place;                                                                              \
         pass(CALL_##name);                                                                            \
         take(1, table);                                                                               \
         struct imrazgul_decoded d = {                                                                 \
@@ -119,6 +120,8 @@ static void done(void) { pthread_mutex_unlock(&one_at_a_time); }
         done();                                                                                       \
         return d;                                                                                     \
     }
+#define DECODE(name) DECODES(name, 0, const uint8_t *src, size_t src_len, uint64_t *table, size_t words)
+#define DECODE_AT(name) DECODES(name, at, const uint8_t *src, size_t src_len, size_t at, uint64_t *table, size_t words)
 #define ENCODE(name)                                                                                              \
     struct imrazgul_encoded name(const uint8_t *src, size_t src_len, const uint64_t *table, size_t words,         \
                                  bool ints_as_bulk, uint8_t *out, size_t out_len) {                               \
