@@ -1,37 +1,52 @@
-//! Safe calls of the decoders and the encoder that `rt staticlib imrazgul` builds.
-//!
-//! A table is lent by the caller: 6 words a row, at most 4,096 rows. docs/RULES.md, 1.2, has the meaning of its words.
+// The crate's root: what it offers, and the answers by cases. Its page is README.md.
+#![doc = include_str!("../README.md")]
 #![no_std]
+#![deny(unsafe_code)]
 
-/// What a decode gives back, as numbers.
-#[repr(C)]
-#[derive(Clone, Copy, Debug, PartialEq, Eq)]
-pub struct Decoded {
-    /// 0 unfinished, 1 frame, 2 marker, 3 refused.
-    pub answer: u64,
-    pub refusal: u64,
-    pub consumed: u64,
-    pub rows: u64,
-}
+#[allow(unsafe_code)]
+mod calls;
+mod reader;
+mod refusal;
+mod row;
 
-/// What an encode gives back. Refusal 0: `bytes` were written, or are needed; 12: `bytes` are needed.
-#[repr(C)]
-#[derive(Clone, Copy, Debug, PartialEq, Eq)]
-pub struct Encoded {
-    pub refusal: u64,
-    pub bytes: u64,
-}
+pub use calls::*;
+pub use reader::{Decoder, Frames, Reader};
+pub use refusal::Refusal;
+pub use row::{Children, Kind, Row, Value};
+
+/// The words of a row.
+pub const ROW_WORDS: usize = 6;
+
+/// The rows that a table can have; words behind them are not used.
+pub const MOST_ROWS: usize = 4096;
+
+/// The frames that can stand in one another, the top one counted.
+pub const MOST_DEPTH: usize = 32;
 
 /// A decode's answer by cases.
 #[derive(Clone, Copy, Debug, PartialEq, Eq)]
 pub enum Answer {
+    /// More bytes are needed.
     Unfinished,
-    Frame { consumed: usize, rows: usize },
-    Marker { consumed: usize, rows: usize },
-    Refused(u64),
+    /// The frame's bytes, from where the decode began, and the rows of the table that it takes.
+    Frame {
+        consumed: usize,
+        rows: usize,
+    },
+    /// The same of a marker: a streamed value begins. Of the streaming decoder alone.
+    Marker {
+        consumed: usize,
+        rows: usize,
+    },
+    Refused(Refusal),
 }
 
 impl Decoded {
+    /// The answer by cases.
+    ///
+    /// # Panics
+    ///
+    /// Where the numbers are none that a call gives.
     #[inline]
     pub fn answer(&self) -> Answer {
         let (consumed, rows) = (self.consumed as usize, self.rows as usize);
@@ -39,105 +54,22 @@ impl Decoded {
             0 => Answer::Unfinished,
             1 => Answer::Frame { consumed, rows },
             2 => Answer::Marker { consumed, rows },
-            _ => Answer::Refused(self.refusal),
+            _ => Answer::Refused(Refusal::from_number(self.refusal).expect("a refusal that a decode gives")),
         }
     }
 }
 
 impl Encoded {
-    /// The bytes written or needed, or the refusal. 12 holds the length needed.
+    /// The bytes written, or the refusal; with [`Refusal::OutputShort`] [`bytes`](Encoded::bytes) are needed.
+    ///
+    /// # Panics
+    ///
+    /// Where the numbers are none that a call gives.
     #[inline]
-    pub fn result(&self) -> Result<usize, (u64, usize)> {
+    pub fn answer(&self) -> Result<usize, Refusal> {
         match self.refusal {
             0 => Ok(self.bytes as usize),
-            k => Err((k, self.bytes as usize)),
+            number => Err(Refusal::from_number(number).expect("a refusal that an encode gives")),
         }
     }
-}
-
-mod raw {
-    use super::{Decoded, Encoded};
-
-    extern "C" {
-        pub fn imrazgul_resp2_decode(src: *const u8, src_len: usize, table: *mut u64, words: usize) -> Decoded;
-        pub fn imrazgul_resp3_decode(src: *const u8, src_len: usize, table: *mut u64, words: usize) -> Decoded;
-        pub fn imrazgul_resp3_stream(src: *const u8, src_len: usize, table: *mut u64, words: usize) -> Decoded;
-        pub fn imrazgul_resp2_encode(
-            src: *const u8,
-            src_len: usize,
-            table: *const u64,
-            words: usize,
-            ints_as_bulk: bool,
-            out: *mut u8,
-            out_len: usize,
-        ) -> Encoded;
-        pub fn imrazgul_resp2_length(
-            src: *const u8,
-            src_len: usize,
-            table: *const u64,
-            words: usize,
-            ints_as_bulk: bool,
-        ) -> Encoded;
-        pub fn imrazgul_u64_digits(n: u64, bytes: *mut [u8; 20]) -> u64;
-        pub fn imrazgul_i64_digits(n: i64, bytes: *mut [u8; 20]) -> u64;
-    }
-}
-
-// Each call below is safe since a Rust slice is what the library asks of a pointer and a length, the lent parts do
-// not overlap, and the library's functions ask nothing else of their caller.
-
-/// Decodes the RESP2 frame that `src` begins with.
-#[inline]
-pub fn resp2_decode(src: &[u8], table: &mut [u64]) -> Decoded {
-    unsafe { raw::imrazgul_resp2_decode(src.as_ptr(), src.len(), table.as_mut_ptr(), table.len()) }
-}
-
-/// Decodes the RESP3 frame that `src` begins with; a streaming marker is refused.
-#[inline]
-pub fn resp3_decode(src: &[u8], table: &mut [u64]) -> Decoded {
-    unsafe { raw::imrazgul_resp3_decode(src.as_ptr(), src.len(), table.as_mut_ptr(), table.len()) }
-}
-
-/// Decodes the RESP3 frame or streaming marker that `src` begins with.
-#[inline]
-pub fn resp3_stream(src: &[u8], table: &mut [u64]) -> Decoded {
-    unsafe { raw::imrazgul_resp3_stream(src.as_ptr(), src.len(), table.as_mut_ptr(), table.len()) }
-}
-
-/// Writes the RESP2 frame that `table` describes to the front of `out`.
-#[inline]
-pub fn resp2_encode(src: &[u8], table: &[u64], ints_as_bulk: bool, out: &mut [u8]) -> Encoded {
-    unsafe {
-        raw::imrazgul_resp2_encode(
-            src.as_ptr(),
-            src.len(),
-            table.as_ptr(),
-            table.len(),
-            ints_as_bulk,
-            out.as_mut_ptr(),
-            out.len(),
-        )
-    }
-}
-
-/// The bytes that `resp2_encode` needs.
-#[inline]
-pub fn resp2_length(src: &[u8], table: &[u64], ints_as_bulk: bool) -> Encoded {
-    unsafe { raw::imrazgul_resp2_length(src.as_ptr(), src.len(), table.as_ptr(), table.len(), ints_as_bulk) }
-}
-
-/// The digits of `n`, filled with `0` on the left, and the count of unused bytes at the front.
-#[inline]
-pub fn u64_digits(n: u64) -> ([u8; 20], usize) {
-    let mut bytes = [0; 20];
-    let unused = unsafe { raw::imrazgul_u64_digits(n, &mut bytes) };
-    (bytes, unused as usize)
-}
-
-/// The same with a sign just before the first digit of a negative number.
-#[inline]
-pub fn i64_digits(n: i64) -> ([u8; 20], usize) {
-    let mut bytes = [0; 20];
-    let unused = unsafe { raw::imrazgul_i64_digits(n, &mut bytes) };
-    (bytes, unused as usize)
 }

@@ -15,6 +15,7 @@ fn refused(refusal: u64) -> Decoded {
 const UNFINISHED: Decoded = Decoded { answer: 0, refusal: 0, consumed: 0, rows: 0 };
 
 type Decoder = fn(&[u8], &mut [u64]) -> Decoded;
+type DecoderAt = fn(&[u8], usize, &mut [u64]) -> Decoded;
 
 /// A decoder's answer with the words that it left in a table of two rows and one word more.
 fn decode(f: Decoder, src: &[u8]) -> (Decoded, [u64; 13]) {
@@ -81,6 +82,11 @@ fn p13_encode_an_array() {
     assert_eq!(&out, b"*2\r\n$1\r\n7\r\n$-1\r\n....");
     assert_eq!(resp2_encode(&[], &P13, false, &mut out[..12]).result(), Err((12, 13)));
     assert_eq!(resp2_encode(&[], &P13[..17], false, &mut out).result(), Err((13, 0)));
+    assert_eq!(resp2_encode(&[], &P13, false, &mut out).answer(), Ok(13));
+    assert_eq!(resp2_encode(&[], &P13, true, &mut out).answer(), Ok(16));
+    assert_eq!(resp2_encode(&[], &P13, true, &mut out[..15]), Encoded { refusal: 12, bytes: 16 });
+    assert_eq!(resp2_encode(&[], &P13, true, &mut out[..15]).answer(), Err(Refusal::OutputShort));
+    assert_eq!(resp2_length(&[], &P13[..17], true).answer(), Err(Refusal::BadTable));
     assert_eq!(&out, b"*2\r\n$1\r\n7\r\n$-1\r\n....");
     let smallest = [3, 1 << 63, 0, 0, 1, 0];
     assert_eq!(resp2_length(&[], &smallest, true).result(), Ok(27));
@@ -100,4 +106,25 @@ fn digits() {
     assert_eq!(u64_digits(u64::MAX), (*b"18446744073709551615", 0));
     assert_eq!(i64_digits(i64::MIN), (*b"-9223372036854775808", 0));
     assert_eq!(i64_digits(-70), (*b"00000000000000000-70", 17));
+}
+
+#[test]
+fn from_a_place() {
+    let at: [DecoderAt; 3] = [resp2_decode_at, resp3_decode_at, resp3_stream_at];
+    for f in at {
+        let decode = |place| {
+            let mut table = [MINE; 13];
+            (f(b"+OK\r\n$2\r\nhi\r\n", place, &mut table), table)
+        };
+        assert_eq!(decode(0), (frame(5, 1), words(&[1, 1, 3, 0, 1, 0])));
+        assert_eq!(decode(5), (frame(8, 1), words(&[7, 9, 11, 0, 1, 0])));
+        assert_eq!(decode(1), (refused(1), words(&[])));
+        for behind in [13, 14, usize::MAX] {
+            assert_eq!(decode(behind), (UNFINISHED, words(&[])));
+        }
+    }
+    let minus_one = |f: DecoderAt| f(b"+\r\n$-1\r\n", 3, &mut [0; 6]).answer();
+    assert_eq!(minus_one(resp2_decode_at), Answer::Frame { consumed: 5, rows: 1 });
+    assert_eq!(minus_one(resp3_decode_at), Answer::Refused(Refusal::BadMarker));
+    assert_eq!(minus_one(resp3_stream_at), Answer::Marker { consumed: 5, rows: 1 });
 }
