@@ -10,7 +10,7 @@ ghost use Rattle.imrazgul.specs.Calls.{DecodeCall, EncodeCall, lengthTol
 pub extern "C" fn imrazgul_resp2_decode(src: &[u8], table: &mut [u64]) -> Told
     ensures { λ r. ⌜ DecodeCall resp2 (now (src .entry)) 0 (now (table .entry)) (now (table .exit)) r ⌝ }
 {
-    answers::numbers_of(resp2::decode(src, table))
+    imrazgul_resp2_decode_at(src, 0, table)
 }
 
 // RESP3, complete: one frame from the front of src, its rows in table; a marker is refused.
@@ -18,7 +18,7 @@ pub extern "C" fn imrazgul_resp2_decode(src: &[u8], table: &mut [u64]) -> Told
 pub extern "C" fn imrazgul_resp3_decode(src: &[u8], table: &mut [u64]) -> Told
     ensures { λ r. ⌜ DecodeCall resp3 (now (src .entry)) 0 (now (table .entry)) (now (table .exit)) r ⌝ }
 {
-    answers::numbers_of(resp3::complete(src, table))
+    imrazgul_resp3_decode_at(src, 0, table)
 }
 
 // RESP3, streaming: one frame or marker from the front of src, its rows in table.
@@ -26,7 +26,7 @@ pub extern "C" fn imrazgul_resp3_decode(src: &[u8], table: &mut [u64]) -> Told
 pub extern "C" fn imrazgul_resp3_stream(src: &[u8], table: &mut [u64]) -> Told
     ensures { λ r. ⌜ DecodeCall resp3-stream (now (src .entry)) 0 (now (table .entry)) (now (table .exit)) r ⌝ }
 {
-    answers::numbers_of(resp3::streaming(src, table))
+    imrazgul_resp3_stream_at(src, 0, table)
 }
 
 // RESP2: one frame from a place of src on, its rows in table. Bytes are counted from the place, offsets from the front of src; a place past the end has no bytes.
