@@ -1,16 +1,20 @@
 -- What the promises of the calls give, in the numbers that they tell. Of a decode: answers that stay, and bounds, proved of every decoder's promise in `answers`. Of an encode and the length: that they agree, and what stays of the output, proved in `encoder`.
 use mathlib.Core.Path.{_≡_, refl, sym, ap, subst, _∙_}
 use mathlib.Core.List.{List, _++_}
-use mathlib.Core.Bool.{Bool}
+use mathlib.Core.Bool.{Bool, true, false}
 use mathlib.Core.Logic.{_⊎_, inl, inr, ⊎-elim}
 use Prim.Native.Nat.{ℕ, _+_, _*_, _≤_, _<_}
 use native.Mathlib.Omega.{arith}
 use lib.ListN.{length, getD, take, drop}
+use lib.Dec.{ltb}
+use Rattle.meaning.specs.Choice.{pick}
 use Rattle.meaning.specs.Kinds.{Profile, resp2}
 use Rattle.meaning.specs.Rows.{rowWidth, rowsIn}
 use Rattle.meaning.specs.Frames.{depthLimit}
+use Rattle.meaning.specs.Decode.{Outcome, refusal, waiting}
+use Rattle.meaning.specs.PipelineLaws as Pipelines
 use Rattle.meaning.specs.Encode.{encoding, encode}
-use Rattle.answers.specs.Answers.{answerOf, meant, Decoded, toldOf}
+use Rattle.answers.specs.Answers.{answerOf, tableAfter, meant, Decoded, toldOf}
 use Rattle.answers.specs.Theorems as Every
 use Rattle.answers.specs.Theorems.{Took, rowsOf}
 use Rattle.answers.specs.declared.Answer.{Answer}
@@ -117,6 +121,17 @@ module _ (π : Profile) (s : List ℕ) (at : ℕ) (inside : at ≤ length s) (t�
       refusal-larger larger roomy =
           let b = Every.refusal-larger π depthLimit s at inside t₀ t₁ said decodes u₀ u₁ (answerOf (meant π depthLimit (s ++ x) at u₀)) x k refuses (other _ e) larger roomy in
           (e .says ∙ ap toldOf (b .0) ∙ sym (w .says), b .1)
+
+-- ---- of a call on s, from its end or a place past it
+
+-- There is nothing to read: it is unfinished or, where the table has no row, 11. The table stays.
+pub past-end : (π : Profile) (s : List ℕ) (at : ℕ) (t₀ t₁ : List ℕ) (r : Told) → DecodeCall π s at t₀ t₁ r → length s ≤ at
+    → (r ≡ toldOf (pick (ltb 0 (rowsIn (length t₀))) Unfinished (Refused 11))) × (t₁ ≡ t₀)
+past-end π s at t₀ t₁ r w past = go (ltb 0 (rowsIn (length t₀))) (Pipelines.past-end π (rowsIn (length t₀)) s at 31 past)
+  where
+    go : (b : Bool) → meant π depthLimit s at t₀ ≡ pick b waiting (refusal 11 0) → (r ≡ toldOf (pick b Unfinished (Refused 11))) × (t₁ ≡ t₀)
+    go true e = (w .says ∙ ap (λ (o : Outcome). toldOf (answerOf o)) e, w .leaves ∙ ap (tableAfter t₀) e)
+    go false e = (w .says ∙ ap (λ (o : Outcome). toldOf (answerOf o)) e, w .leaves ∙ ap (tableAfter t₀) e)
 
 -- ---- of a length query and an encode on the same source, table and flag: they told l and r
 

@@ -12,10 +12,12 @@ pub mod Digits
 pub mod Tree
 pub mod Encode
 pub mod Trips
+pub mod Pipeline
 pub mod Samples
 pub mod RuleSamples
 pub mod Cells
 pub mod TripSamples
+pub mod PipelineSamples
 pub mod DemandLaws
 pub mod ProgLaws
 pub mod KindsLaws
@@ -24,6 +26,7 @@ pub mod FramesLaws
 pub mod RunLaws
 pub mod KeyLaws
 pub mod DecodeLaws
+pub mod PipelineLaws
 pub mod DigitLaws
 pub mod TreeLaws
 pub mod EncodeLaws

@@ -126,7 +126,7 @@ module _ (π : Profile) (s : List ℕ) (lim at used : ℕ) where
     unfolding run frameP
     frame-full h = rw (le-ltb used lim h)
 
-    frame-typed : used < lim → run (frameP π (suc d)) s lim at used
+    pub frame-typed : used < lim → run (frameP π (suc d)) s lim at used
         ≡ run (typeP π (λ k. pick (eqb k Attribute) (attributeP π (frameP π d)) (bodyP π (frameP π d) 0 k))) s lim at (used + 1)
     unfolding run frameP
     frame-typed h = rw (lt-ltb used lim h)
