@@ -1,6 +1,7 @@
-// All frames of a capture, and where and why they end.
+// The frames of a window of the capture, one after another.
 use crate::frame;
-use crate::out;
+use crate::out::Place;
+use crate::tally;
 use answers::Answer;
 ghost use Prim.Native.Nat.{_+_, _≤_};
 ghost use lib.ListN.{length};
@@ -15,11 +16,11 @@ pub(crate) enum Protocol {
     Resp3,
 }
 
-// How much of the output buffer is used, the offset of the next frame, and the refusal or 0.
-struct Moved {
-    used: usize,
-    at: usize,
-    refusal: u64,
+// How much of the output is used, where the next frame begins, and the refusal of that or 0.
+pub(crate) struct Moved {
+    pub place: Place,
+    pub at: usize,
+    pub refusal: u64,
 }
 
 // The one place that calls a decoder.
@@ -32,22 +33,52 @@ fn decoded(protocol: Protocol, s: &[u8], at: usize, t: &mut [u64]) -> Answer
     }
 }
 
+// Whether what begins at the front is refused.
+pub(crate) fn is_refused(protocol: Protocol, s: &[u8], t: &mut [u64]) -> bool {
+    match decoded(protocol, s, 0, t) {
+        Answer::Refused(_) => true,
+        _ => false,
+    }
+}
+
+// The kind of the frame that has these rows. An attribute's stand before its own.
+fn top_kind(t: &[u64], rows: usize) -> u64
+    requires { ⌜ rows ≤ rowsIn (length (now t)) ⌝ }
+{
+    if rows == 0 {
+        return 0;
+    }
+    let first = rows::row_at(t, 0);
+    if first.kind == kinds::ATTRIBUTE as u64 {
+        if first.span < rows as u64 {
+            let own = rows::row_at(t, first.span as usize);
+            return own.kind;
+        }
+    }
+    first.kind
+}
+
 // The lines of what begins at `at`, of n bytes and so many rows.
 fn shown(
     s: &[u8],
+    base: u64,
     t: &[u64],
     out: &mut [u8; 65536],
-    used: usize,
+    tally: &mut [u64; 46],
+    place: Place,
     at: usize,
     n: usize,
     rows: usize,
 ) -> Moved
-    requires { ⌜ used ≤ 65536 ⌝ }
+    requires { ⌜ place .at ≤ 65536 ⌝ }
     requires { ⌜ (at + n ≤ length (now s)) × (rows ≤ rowsIn (length (now t))) ⌝ }
-    ensures { λ r. ⌜ (r .used ≤ 65536) × (r .at ≤ length (now (s .entry))) ⌝ }
+    ensures { λ r. ⌜ (r .place .at ≤ 65536) × (r .at ≤ length (now (s .entry))) ⌝ }
 {
+    let kind = top_kind(t, rows);
+    tally::add(tally, kind, n as u64);
+    let next = frame::lines(out, place, s, base, at, t, rows);
     Moved {
-        used: frame::lines(out, used, s, at, t, rows),
+        place: next,
         at: at + n,
         refusal: 0,
     }
@@ -57,91 +88,58 @@ fn shown(
 fn step(
     protocol: Protocol,
     s: &[u8],
+    base: u64,
     t: &mut [u64],
     out: &mut [u8; 65536],
-    used: usize,
+    tally: &mut [u64; 46],
+    place: Place,
     at: usize,
 ) -> Moved
-    requires { ⌜ used ≤ 65536 ⌝ }
+    requires { ⌜ place .at ≤ 65536 ⌝ }
     requires { ⌜ at ≤ length (now s) ⌝ }
-    ensures { λ r. ⌜ (r .used ≤ 65536) × (r .at ≤ length (now (s .entry))) ⌝ }
+    ensures { λ r. ⌜ (r .place .at ≤ 65536) × (r .at ≤ length (now (s .entry))) ⌝ }
 {
     match decoded(protocol, s, at, t) {
-        Answer::Frame(n, rows) => shown(s, t, out, used, at, n, rows),
-        Answer::Marker(n, rows) => shown(s, t, out, used, at, n, rows),
-        Answer::Refused(refusal) => Moved { used, at, refusal },
+        Answer::Frame(n, rows) => shown(s, base, t, out, tally, place, at, n, rows),
+        Answer::Marker(n, rows) => shown(s, base, t, out, tally, place, at, n, rows),
+        Answer::Refused(refusal) => Moved { place, at, refusal },
         Answer::Unfinished => Moved {
-            used,
+            place,
             at,
             refusal: 0,
         },
     }
 }
 
-// How it ended.
-fn report(
+// All whole frames of the window, up to one that is refused or not all there. base is the window's offset in the input.
+pub(crate) fn frames(
+    protocol: Protocol,
+    s: &[u8],
+    base: u64,
+    t: &mut [u64],
     out: &mut [u8; 65536],
-    used: usize,
-    frames: u64,
-    at: usize,
-    left: usize,
-    refusal: u64,
-) -> usize
-    requires { ⌜ used ≤ 65536 ⌝ }
-    ensures { λ r. ⌜ r ≤ 65536 ⌝ }
+    tally: &mut [u64; 46],
+    place: Place,
+) -> Moved
+    requires { ⌜ place .at ≤ 65536 ⌝ }
+    ensures { λ r. ⌜ (r .place .at ≤ 65536) × (r .at ≤ length (now (s .entry))) ⌝ }
 {
-    let p = out::count(out, used, frames, b" frame");
-    let p = out::say(out, p, b", ");
-    let p = out::count(out, p, at as u64, b" byte");
-    if left == 0 {
-        return out::say(out, p, b"\n");
-    }
-    let p = out::say(out, p, b"\nstopped at byte ");
-    let p = out::number(out, p, at as u64);
-    if refusal == 0 {
-        let p = out::say(out, p, b": unfinished, ");
-        let p = out::count(out, p, left as u64, b" byte");
-        return out::say(out, p, b" left\n");
-    }
-    refused(out, p, refusal)
-}
-
-fn refused(out: &mut [u8; 65536], used: usize, refusal: u64) -> usize
-    requires { ⌜ used ≤ 65536 ⌝ }
-    ensures { λ r. ⌜ r ≤ 65536 ⌝ }
-{
-    let p = out::say(out, used, b": refused with ");
-    let p = out::number(out, p, refusal);
-    let p = out::say(out, p, b", ");
-    let p = out::room(out, p);
-    let p = wording::reason(out, p, refusal);
-    if refusal == 11 {
-        return out::say(out, p, b", which is 4096\n");
-    }
-    out::say(out, p, b"\n")
-}
-
-fn frames(protocol: Protocol, s: &[u8], t: &mut [u64], out: &mut [u8; 65536]) -> usize
-    ensures { λ r. ⌜ r ≤ 65536 ⌝ }
-{
-    let mut used = 0;
+    let mut p = place;
     let mut at = 0;
-    let mut count = 0u64;
     while at < s.len() {
-        let next = step(protocol, s, t, out, used, at);
-        used = next.used;
+        let next = step(protocol, s, base, t, out, tally, p, at);
         if next.at <= at {
-            return report(out, used, count, at, s.len() - at, next.refusal);
+            return next;
         }
+        if next.place.lost {
+            return next;
+        }
+        p = next.place;
         at = next.at;
-        count += 1;
     }
-    report(out, used, count, at, 0, 0)
-}
-
-pub(crate) fn show(protocol: Protocol, s: &[u8]) {
-    let mut t = [0u64; 24576];
-    let mut out = [0u8; 65536];
-    let used = frames(protocol, s, &mut t, &mut out);
-    out::flush(&out, used);
+    Moved {
+        place: p,
+        at,
+        refusal: 0,
+    }
 }

@@ -1,5 +1,6 @@
 // The lines of one frame.
 use crate::out;
+use crate::out::Place;
 use rows::Row;
 use text::scan::Found;
 ghost use Prim.Native.Nat.{_≤_};
@@ -7,7 +8,7 @@ ghost use lib.ListN.{length};
 ghost use Rattle.meaning.specs.Rows.{rowsIn};
 
 // How many columns an offset is short of 7.
-fn short_of(n: usize) -> usize
+fn short_of(n: u64) -> usize
     ensures { λ r. ⌜ r ≤ 6 ⌝ }
 {
     if n < 10 {
@@ -31,64 +32,39 @@ fn short_of(n: usize) -> usize
     0
 }
 
-// The offset, in seven columns, and the columns before the kind.
-fn margin(out: &mut [u8; 65536], at: usize, offset: usize, depth: usize) -> usize
-    requires { ⌜ at ≤ 65536 ⌝ }
+// The offset, in seven columns or more, and the columns before the kind.
+fn margin(out: &mut [u8; 65536], p: Place, offset: u64, depth: usize) -> Place
+    requires { ⌜ p .at ≤ 65536 ⌝ }
     requires { ⌜ depth ≤ 32 ⌝ }
-    ensures { λ r. ⌜ r ≤ 65536 ⌝ }
+    ensures { λ r. ⌜ r .at ≤ 65536 ⌝ }
 {
-    let p = out::room(out, at);
-    let p = wording::spaces(out, p, short_of(offset));
-    let p = out::number(out, p, offset as u64);
-    let p = out::room(out, p);
-    wording::spaces(out, p, 2 * depth + 2)
+    let q = out::spaces(out, p, short_of(offset));
+    let q = out::number(out, q, offset);
+    out::spaces(out, q, 2 * depth + 2)
 }
 
-fn least(a: usize, b: usize) -> usize
-    ensures { λ r. ⌜ (r ≤ a) × (r ≤ b) ⌝ }
+// The bytes of a text, if the window has them.
+fn text_of(out: &mut [u8; 65536], p: Place, s: &[u8], r: Row) -> Place
+    requires { ⌜ p .at ≤ 65536 ⌝ }
+    ensures { λ r. ⌜ r .at ≤ 65536 ⌝ }
 {
-    if a < b { a } else { b }
-}
-
-// The bytes from one offset to another, escaped, in pieces that the output buffer has room for.
-fn pieces(out: &mut [u8; 65536], at: usize, s: &[u8], from: usize, to: usize) -> usize
-    requires { ⌜ at ≤ 65536 ⌝ }
-    requires { ⌜ to ≤ length (now s) ⌝ }
-    ensures { λ r. ⌜ r ≤ 65536 ⌝ }
-{
-    let mut p = at;
-    let mut i = from;
-    while i < to {
-        let next = i + 1 + least(to - i - 1, 1023);
-        p = out::room(out, p);
-        p = wording::escapes(out, p, &s[i..next]);
-        i = next;
+    if r.w2 <= s.len() as u64 {
+        return out::pieces(out, p, s, r.w1 as usize, r.w2 as usize);
     }
     p
 }
 
-// The bytes of a text, if the input has them.
-fn text_of(out: &mut [u8; 65536], at: usize, s: &[u8], r: Row) -> usize
-    requires { ⌜ at ≤ 65536 ⌝ }
-    ensures { λ r. ⌜ r ≤ 65536 ⌝ }
+fn quoted(out: &mut [u8; 65536], p: Place, s: &[u8], r: Row) -> Place
+    requires { ⌜ p .at ≤ 65536 ⌝ }
+    ensures { λ r. ⌜ r .at ≤ 65536 ⌝ }
 {
-    if r.w2 <= s.len() as u64 {
-        return pieces(out, at, s, r.w1 as usize, r.w2 as usize);
-    }
-    at
-}
-
-fn quoted(out: &mut [u8; 65536], at: usize, s: &[u8], r: Row) -> usize
-    requires { ⌜ at ≤ 65536 ⌝ }
-    ensures { λ r. ⌜ r ≤ 65536 ⌝ }
-{
-    let p = out::say(out, at, b" \"");
-    let p = text_of(out, p, s, r);
-    out::say(out, p, b"\"")
+    let q = out::say(out, p, b" \"");
+    let q = text_of(out, q, s, r);
+    out::say(out, q, b"\"")
 }
 
 // A row's kind code, 0 where it is none.
-fn kind_of(r: Row) -> u8 {
+pub(crate) fn kind_of(r: Row) -> u8 {
     let kind = r.kind;
     if kind <= kinds::NAME as u64 {
         return kind as u8;
@@ -120,83 +96,90 @@ fn has_text(kind: u8) -> bool {
 }
 
 // What a streamed value begins with: of which kind it is.
-fn begins(out: &mut [u8; 65536], at: usize, kind: u64) -> usize
-    requires { ⌜ at ≤ 65536 ⌝ }
-    ensures { λ r. ⌜ r ≤ 65536 ⌝ }
+fn begins(out: &mut [u8; 65536], p: Place, kind: u64) -> Place
+    requires { ⌜ p .at ≤ 65536 ⌝ }
+    ensures { λ r. ⌜ r .at ≤ 65536 ⌝ }
 {
-    let p = out::say(out, at, b": a streamed ");
-    let p = out::room(out, p);
-    let p = wording::kind(out, p, kind);
-    out::say(out, p, b" begins")
+    let q = out::say(out, p, b": a streamed ");
+    let q = out::kind(out, q, kind);
+    out::say(out, q, b" begins")
 }
 
 // What is said of a row behind the name of its kind. A Double goes without quotes, since its text is a number's; a
 // BigNumber's text is not looked at by a decoder, and has them. Pairs are counted as the wire counts them: word 3 has two
 // for each.
-fn value(out: &mut [u8; 65536], at: usize, s: &[u8], r: Row) -> usize
-    requires { ⌜ at ≤ 65536 ⌝ }
-    ensures { λ r. ⌜ r ≤ 65536 ⌝ }
+fn value(out: &mut [u8; 65536], p: Place, s: &[u8], r: Row) -> Place
+    requires { ⌜ p .at ≤ 65536 ⌝ }
+    ensures { λ r. ⌜ r .at ≤ 65536 ⌝ }
 {
     match kind_of(r) {
-        0 | kinds::NULL | kinds::END_STREAM => at,
+        0 | kinds::NULL | kinds::END_STREAM => p,
         kinds::NUMBER => {
-            let p = out::say(out, at, b" ");
-            let p = out::room(out, p);
-            wording::signed(out, p, r.w1)
+            let q = out::say(out, p, b" ");
+            out::signed(out, q, r.w1)
         }
         kinds::DOUBLE => {
-            let p = out::say(out, at, b" ");
-            text_of(out, p, s, r)
+            let q = out::say(out, p, b" ");
+            text_of(out, q, s, r)
         }
         kinds::BOOLEAN => {
             if r.w1 == 0 {
-                return out::say(out, at, b" false");
+                return out::say(out, p, b" false");
             }
-            out::say(out, at, b" true")
+            out::say(out, p, b" true")
         }
         kinds::VERBATIM => {
             if r.w3 == 1 {
-                let p = out::say(out, at, b" txt");
-                return quoted(out, p, s, r);
+                let q = out::say(out, p, b" txt");
+                return quoted(out, q, s, r);
             }
-            let p = out::say(out, at, b" mkd");
-            quoted(out, p, s, r)
+            let q = out::say(out, p, b" mkd");
+            quoted(out, q, s, r)
         }
         kinds::ARRAY | kinds::SET | kinds::PUSH => {
-            let p = out::say(out, at, b" of ");
-            out::number(out, p, r.w3)
+            let q = out::say(out, p, b" of ");
+            out::number(out, q, r.w3)
         }
         kinds::MAP | kinds::ATTRIBUTE => {
-            let p = out::say(out, at, b" of ");
-            out::count(out, p, r.w3 / 2, b" pair")
+            let q = out::say(out, p, b" of ");
+            out::count(out, q, r.w3 / 2, b" pair")
         }
         kinds::HELLO => {
-            let p = out::say(out, at, b" ");
-            out::number(out, p, r.w3)
+            let q = out::say(out, p, b" ");
+            out::number(out, q, r.w3)
         }
-        kinds::MARKER => begins(out, at, r.w3),
-        _ => quoted(out, at, s, r),
+        kinds::MARKER => begins(out, p, r.w3),
+        _ => quoted(out, p, s, r),
     }
 }
 
-fn line(out: &mut [u8; 65536], at: usize, s: &[u8], offset: usize, depth: usize, r: Row) -> usize
-    requires { ⌜ at ≤ 65536 ⌝ }
+// A row's line. base is the offset of the window, and `place` that of the frame in it.
+fn line(
+    out: &mut [u8; 65536],
+    p: Place,
+    s: &[u8],
+    base: u64,
+    place: usize,
+    depth: usize,
+    r: Row,
+) -> Place
+    requires { ⌜ p .at ≤ 65536 ⌝ }
     requires { ⌜ depth ≤ 32 ⌝ }
-    ensures { λ r. ⌜ r ≤ 65536 ⌝ }
+    ensures { λ r. ⌜ r .at ≤ 65536 ⌝ }
 {
-    let p = margin(out, at, offset, depth);
-    let p = out::room(out, p);
-    let p = wording::kind(out, p, r.kind);
-    let p = value(out, p, s, r);
-    out::say(out, p, b"\n")
+    let q = margin(out, p, offset_of(base, place, r), depth);
+    let q = out::kind(out, q, r.kind);
+    let q = value(out, q, s, r);
+    out::say(out, q, b"\n")
 }
 
-// The offset that a row is shown with: where its frame begins, or a field's text.
-fn offset_of(place: usize, r: Row) -> usize {
+// The offset in the input that a row is shown with: where its frame begins, or a field's text. No offset comes near 2^64: the
+// sum is one that wraps so that nothing has to be shown of it.
+fn offset_of(base: u64, place: usize, r: Row) -> u64 {
     if is_field(kind_of(r)) {
-        return r.w1 as usize;
+        return std::num::wrapping_add_u64(base, r.w1);
     }
-    place
+    std::num::wrapping_add_u64(base, place as u64)
 }
 
 // Where the next frame begins, after the row of one that begins at `place`. A field lies in a line that was passed with its
@@ -253,19 +236,20 @@ fn past(row: usize, span: u64, count: usize) -> usize
     }
 }
 
-// The rows of the frame that begins at `from`, its attribute's before its own.
+// The rows of the frame that begins at `from` in the window, its attribute's before its own.
 pub(crate) fn lines(
     out: &mut [u8; 65536],
-    at: usize,
+    at: Place,
     s: &[u8],
+    base: u64,
     from: usize,
     t: &[u64],
     count: usize,
-) -> usize
-    requires { ⌜ at ≤ 65536 ⌝ }
+) -> Place
+    requires { ⌜ at .at ≤ 65536 ⌝ }
     requires { ⌜ from ≤ length (now s) ⌝ }
     requires { ⌜ count ≤ rowsIn (length (now t)) ⌝ }
-    ensures { λ r. ⌜ r ≤ 65536 ⌝ }
+    ensures { λ r. ⌜ r .at ≤ 65536 ⌝ }
 {
     let mut ends = [0usize; 32];
     let mut p = at;
@@ -275,7 +259,7 @@ pub(crate) fn lines(
     while row < count {
         depth = open_at(&ends, depth, row);
         let r = rows::row_at(t, row);
-        p = line(out, p, s, offset_of(place, r), depth, r);
+        p = line(out, p, s, base, place, depth, r);
         place = after(s, place, r);
         if depth < 32 {
             ends[depth] = past(row, r.span, count);

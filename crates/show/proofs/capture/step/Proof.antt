@@ -26,9 +26,9 @@ enum-known-n c = search needs
 
 shown-requires : tie.Need-shown-requires
 shown-requires c κs =
-    let e = c .before .before .before .before .before .before .before .before .before .before .before in
-    let d = c .before .before .before .before .before .before .before .decoded in
-    let x = c .before .before .before .n .given in (
+    let e = c .before .before .before .before .before .before .before .before .before .before .before .before in
+    let d = c .before .before .before .before .before .before .before .before .decoded in
+    let x = c .before .before .before .before .n .given in (
       search needs,
       within (profileOf (e .args .protocol)) (e .args .s .now) (e .args .at) (search needs) (e .args .t .now) (d .last .1 .1 .1 .0) (d .kept .1 .1 .1 .0) _ (rw (x .1) at (d .ensures)) (x .0 .0) refl,
     )
@@ -38,9 +38,9 @@ enum-known-n-2 c = search needs
 
 shown-requires-2 : tie.Need-shown-requires-2
 shown-requires-2 c κs =
-    let e = c .before .before .before .before .before .before .before .before .before .before .before in
-    let d = c .before .before .before .before .before .before .before .decoded in
-    let x = c .before .before .before .n2 .given in (
+    let e = c .before .before .before .before .before .before .before .before .before .before .before .before in
+    let d = c .before .before .before .before .before .before .before .before .decoded in
+    let x = c .before .before .before .before .n2 .given in (
       search needs,
       within (profileOf (e .args .protocol)) (e .args .s .now) (e .args .at) (search needs) (e .args .t .now) (d .last .1 .1 .1 .0) (d .kept .1 .1 .1 .0) _ (rw (x .1) at (d .ensures)) (x .0 .0) refl,
     )

@@ -1,17 +1,17 @@
 -- `show::frame::lines` meets its contract.
-use mathlib.Core.Logic.{⊎-elim}
 use Prim.Native.Nat.{_-_, _≤_}
-use native.Mathlib.Omega.{arith}
 use borrow.Author.Needs.{needs}
 use lib.ListN.{length}
+use mathlib.Core.Logic.{⊎-elim}
+use native.Mathlib.Omega.{arith}
 use Rattle.show.proofs.frame.lines.Statement.{statement}
 use Rattle.show.proofs.frame.lines.Tie as tie
 
 abbrev Inv-loop : tie.InvT-loop
-Inv-loop out₀ at s from t count ends₀ p₀ place₀ depth₀ row₀ out ends p place depth row = (p ≤ 65536) × (place ≤ length s) × (depth ≤ 32) × (row ≤ count)
+Inv-loop out₀ s base from t count ends₀ p₀ place₀ depth₀ row₀ out ends p place depth row = (p .at ≤ 65536) × (place ≤ length s) × (depth ≤ 32) × (row ≤ count)
 
 abbrev μ-loop : tie.MeasureT-loop
-μ-loop out₀ at s from t count ends₀ p₀ place₀ depth₀ row₀ out ends p place depth row = count - row
+μ-loop out₀ s base from t count ends₀ p₀ place₀ depth₀ row₀ out ends p place depth row = count - row
 
 loop-holds : tie.Need-loop-holds Inv-loop μ-loop
 loop-holds c = search needs
@@ -21,9 +21,6 @@ open-at-requires c κs = search needs
 
 row-at-requires : tie.Need-row-at-requires Inv-loop μ-loop
 row-at-requires c κs = search needs
-
-offset-of-requires : tie.Need-offset-of-requires Inv-loop μ-loop
-offset-of-requires c κs = search needs
 
 line-requires : tie.Need-line-requires Inv-loop μ-loop
 line-requires c κs = search needs
@@ -64,7 +61,6 @@ lines-spec =
     loop-holds
     open-at-requires
     row-at-requires
-    offset-of-requires
     line-requires
     after-requires
     past-requires

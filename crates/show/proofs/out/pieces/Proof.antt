@@ -1,16 +1,16 @@
--- `show::frame::pieces` meets its contract: each turn takes at least a byte and at most 1,024.
+-- `show::out::pieces` meets its contract: each turn takes at least a byte and at most 1,024.
 use Prim.Native.Nat.{_-_, _≤_}
-use native.Mathlib.Omega.{arith}
 use borrow.Author.Needs.{needs}
 use lib.ListN.{length-take}
-use Rattle.show.proofs.frame.pieces.Statement.{statement}
-use Rattle.show.proofs.frame.pieces.Tie as tie
+use native.Mathlib.Omega.{arith}
+use Rattle.show.proofs.out.pieces.Statement.{statement}
+use Rattle.show.proofs.out.pieces.Tie as tie
 
 abbrev Inv-loop : tie.InvT-loop
-Inv-loop out₀ at s from to p₀ i₀ out p i = p ≤ 65536
+Inv-loop out₀ s from to p₀ i₀ out p i = p .at ≤ 65536
 
 abbrev μ-loop : tie.MeasureT-loop
-μ-loop out₀ at s from to p₀ i₀ out p i = to - i
+μ-loop out₀ s from to p₀ i₀ out p i = to - i
 
 loop-holds : tie.Need-loop-holds Inv-loop μ-loop
 loop-holds c = search needs
@@ -30,9 +30,6 @@ least-requires c κs = search needs
 add-next-2 : tie.Need-add-next-2 Inv-loop μ-loop
 add-next-2 c = search needs
 
-room-requires : tie.Need-room-requires Inv-loop μ-loop
-room-requires c κs = search needs
-
 sub-escapes : tie.Need-sub-escapes Inv-loop μ-loop
 sub-escapes c = search needs
 
@@ -43,7 +40,7 @@ part-escapes-end : tie.Need-part-escapes-end Inv-loop μ-loop
 part-escapes-end c = search needs
 
 escapes-requires : tie.Need-escapes-requires Inv-loop μ-loop
-escapes-requires c κs = simp length-take (omega arith)
+escapes-requires c κs = (search needs, simp length-take (omega arith))
 
 loop-less : tie.Need-loop-less Inv-loop μ-loop
 loop-less c = search needs
@@ -66,7 +63,6 @@ pieces-spec =
     sub-least-2
     least-requires
     add-next-2
-    room-requires
     sub-escapes
     part-escapes-start
     part-escapes-end
