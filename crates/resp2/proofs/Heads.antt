@@ -21,13 +21,18 @@ use Rattle.leaf.specs.declared.Leaf.{Leaf}
 use Rattle.leaf.specs.declared.Leaf.the-variants as Leaf
 use Rattle.leaf.specs.declared.Counted.the-variants as Counted
 use Rattle.leaf.proofs.Leaves.{short-number, short-count}
-use Rattle.resp2.specs.Heads.{Heads, outHead, countedP, numericP, shortP, kindP, leafP}
+use Rattle.resp2.specs.Heads.{Heads, ofLeaf, outHead, countedP, numericP, shortP, kindP, leafP}
 use Rattle.resp2.specs.declared.head.Head.{Head}
 use Rattle.resp2.specs.declared.head.Head.the-variants as Head
 
 -- a leaf is a head
-pub leaf-heads : {p : Prog Step} {s : List ℕ} {at : ℕ} {l : Leaf} → Reads p s at l → Heads p s at (Head.Leaf l)
-leaf-heads w = record { means = w .means }
+pub leaf-heads : {p : Prog Step} {s : List ℕ} {at : ℕ} {l : Leaf} {h : Head} → h ≡ ofLeaf l → Reads p s at l → Heads p s at h
+leaf-heads {p} {s} {at} {l} e w = subst (Heads p s at) (sym e) (go l w)
+  where
+    go : (l : Leaf) → Reads p s at l → Heads p s at (ofLeaf l)
+    go (Leaf.Row k a b c next) w = record { means = w .means }
+    go (Leaf.Refused k n) w = record { means = w .means }
+    go Leaf.Unfinished w = record { means = w .means }
 
 pub unknown : (s : List ℕ) (at : ℕ) → Reads (refuse 1) s at (Leaf.Refused 1 at)
 unfolding run
@@ -44,28 +49,28 @@ module _ (s : List ℕ) (k n : ℕ) (c : Cursor) where
   unfolding run
   counted-array e = rw (eq-eqb k Array e) (record { means = λ lim used. refl })
 
-  pub counted-text : {l : Leaf} → (k ≡ Array → ⊥) → ((π : Profile) → Reads (bulkP π BlobString n) s (c .at) l) → Heads (countedP k n) s (c .at) (Head.Leaf l)
-  counted-text e w = rw (ne-eqb k Array e) (leaf-heads (w resp2))
+  pub counted-text : {l : Leaf} {h : Head} → (k ≡ Array → ⊥) → h ≡ ofLeaf l → ((π : Profile) → Reads (bulkP π BlobString n) s (c .at) l) → Heads (countedP k n) s (c .at) h
+  counted-text e q w = rw (ne-eqb k Array e) (leaf-heads q (w resp2))
 
 module _ (s : List ℕ) (at k : ℕ) where
   -- a count, and then what it is for
   pub length-count : {n : ℕ} {c : Cursor} {h : Head} → Counts false k s at (Counted.Count n c) → Heads (countedP k n) s (c .at) h → Heads (lengthP resp2 k (countedP k)) s at h
   length-count w v = record { means = λ lim used. w .means resp2 refl (countedP k) lim used ∙ v .means lim used }
 
-  pub length-other : {l : Leaf} → Counts false k s at (Counted.Not l) → Heads (lengthP resp2 k (countedP k)) s at (Head.Leaf l)
-  length-other w = record { means = w .means resp2 refl (countedP k) }
+  pub length-other : {l : Leaf} {h : Head} → h ≡ ofLeaf l → Counts false k s at (Counted.Not l) → Heads (lengthP resp2 k (countedP k)) s at h
+  length-other {l} q w = leaf-heads {l = l} q (record { means = w .means resp2 refl (countedP k) })
 
   -- ---- a Number, a bulk string or an array
 
-  pub numeric-number : {l : Leaf} → k ≡ Number → Reads (numberP resp2) s at l → Heads (numericP k) s at (Head.Leaf l)
-  numeric-number e w = rw (eq-eqb k Number e) (leaf-heads w)
+  pub numeric-number : {l : Leaf} {h : Head} → k ≡ Number → h ≡ ofLeaf l → Reads (numberP resp2) s at l → Heads (numericP k) s at h
+  numeric-number e q w = rw (eq-eqb k Number e) (leaf-heads q w)
 
   pub numeric-length : {h : Head} → (k ≡ Number → ⊥) → Heads (lengthP resp2 k (countedP k)) s at h → Heads (numericP k) s at h
   numeric-length e w = rw (ne-eqb k Number e) w
 
 -- behind a short line worth v
 module _ (s : List ℕ) (k v : ℕ) (c : Cursor) where
-  pub short-value : k ≡ Number → Heads (shortP k v) s (c .at) (Head.Leaf (Leaf.Row Number v 0 0 c))
+  pub short-value : k ≡ Number → Heads (shortP k v) s (c .at) (Head.Row Number v 0 0 c)
   unfolding run
   short-value e = rw (eq-eqb k Number e) (record { means = λ lim used. refl })
 
@@ -84,12 +89,12 @@ module _ (s : List ℕ) (k v : ℕ) (c : Cursor) where
 -- ---- by the kind
 
 module _ (s : List ℕ) (at k : ℕ) where
-  pub kind-unknown : k ≡ 0 → Heads (kindP k) s at (Head.Leaf (Leaf.Refused 1 at))
+  pub kind-unknown : k ≡ 0 → Heads (kindP k) s at (Head.Refused 1 at)
   unfolding run
   kind-unknown e = rw (eq-eqb k 0 e) (record { means = λ lim used. refl })
 
-  pub kind-text : {l : Leaf} → (k ≡ 0 → ⊥) → k < Number → ((π : Profile) → Reads (textLineP π k) s at l) → Heads (kindP k) s at (Head.Leaf l)
-  kind-text z e w = rw (ne-eqb k 0 z, lt-ltb k Number e) (leaf-heads (w resp2))
+  pub kind-text : {l : Leaf} {h : Head} → (k ≡ 0 → ⊥) → k < Number → h ≡ ofLeaf l → ((π : Profile) → Reads (textLineP π k) s at l) → Heads (kindP k) s at h
+  kind-text z e q w = rw (ne-eqb k 0 z, lt-ltb k Number e) (leaf-heads q (w resp2))
 
   pub kind-numeric : {h : Head} → (k ≡ 0 → ⊥) → Number ≤ k → Heads (numericP k) s at h → Heads (kindP k) s at h
   kind-numeric z e w = rw (ne-eqb k 0 z, le-ltb k Number e) w
@@ -108,7 +113,7 @@ module _ (b : ℕ) where
   by-leaf = kind2-elim (λ k. (k ≡ Array → ⊥) → headP resp2 k ≡ leafP k) (λ h. refl) (λ h. refl) (λ h. refl) (λ h. refl) (λ h. refl) (λ h. absurd (h refl)) b
 
 module _ (s : List ℕ) (at : ℕ) where
-  pub no-byte : length s ≤ at → Heads (typeP resp2 (headP resp2)) s at (Head.Leaf Leaf.Unfinished)
+  pub no-byte : length s ≤ at → Heads (typeP resp2 (headP resp2)) s at Head.Unfinished
   no-byte h = record { means = λ lim used. type-short s lim at used resp2 (headP resp2) h }
 
   pub a-byte : {h : Head} {k : ℕ} → at < length s → k ≡ kindOf resp2 (getD s at 0) → Heads (kindP k) s (at + 1) h → Heads (typeP resp2 (headP resp2)) s at h

@@ -4,15 +4,23 @@ use mathlib.Core.List.{List}
 use Prim.Native.Nat.{ℕ}
 use lib.Dec.{ltb, eqb}
 use Rattle.meaning.specs.Choice.{pick}
-use Rattle.meaning.specs.Prog.{Prog, ret, refuse, run, Out, done}
+use Rattle.meaning.specs.Prog.{Prog, ret, refuse, run, Out, done, refused, unfinished}
 use Rattle.meaning.specs.Kinds.{resp2, SimpleString, SimpleError, Number, BlobString, Array}
 use Rattle.meaning.specs.Frames.{Step, leaf, holder, textLineP, numberP, lengthP, bulkP}
-use Rattle.leaf.specs.Leaves.{outLeaf}
+use Rattle.leaf.specs.declared.Leaf.{Leaf}
+use Rattle.leaf.specs.declared.Leaf.the-variants as Leaf
 use Rattle.resp2.specs.declared.head.Head.{Head}
 use Rattle.resp2.specs.declared.head.Head.the-variants as Head
 
+abbrev pub ofLeaf : Leaf → Head
+ofLeaf (Leaf.Row k a b c next) = Head.Row k a b c next
+ofLeaf (Leaf.Refused k at) = Head.Refused k at
+ofLeaf Leaf.Unfinished = Head.Unfinished
+
 abbrev pub outHead : ℕ → Head → Out Step
-outHead used (Head.Leaf l) = outLeaf used l
+outHead used (Head.Row k a b c next) = done (leaf k a b c) (next .at) used
+outHead used (Head.Refused k at) = refused k at
+outHead used Head.Unfinished = unfinished
 outHead used (Head.Holder n c) = done (holder Array n) (c .at) used
 
 -- r is what p gives at a place of s, whatever the table

@@ -1,5 +1,6 @@
 // A frame, and the frames beneath an array: the two call one another, and the depth that is left falls.
 use crate::head::Head;
+use leaf::Leaf;
 use text::Cursor;
 use walk::Walk;
 ghost use Prim.Native.Nat.{_-_};
@@ -65,7 +66,9 @@ fn frame(
         return Walk::Refused(11, at);
     }
     match crate::head::head_at(s, kinds, c) {
-        Head::Leaf(l) => walk::leaf_row(t, used, 0, l),
+        Head::Row(k, a, b, w, next) => walk::leaf_row(t, used, 0, Leaf::Row(k, a, b, w, next)),
+        Head::Refused(k, p) => Walk::Refused(k, p),
+        Head::Unfinished => Walk::Unfinished,
         Head::Holder(n, next) => array(s, t, kinds, lim, next, used + 1, depth - 1, n),
     }
 }

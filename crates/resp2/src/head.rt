@@ -4,6 +4,7 @@ use leaf::Leaf;
 use text::Cursor;
 use text::Taken;
 use text::number::Short;
+ghost use mathlib.Core.Path.{_≡_};
 ghost use Prim.Native.Nat.{_≤_};
 ghost use lib.ListN.{length};
 ghost use Rattle.meaning.specs.Kinds.{resp2, BlobString, Array};
@@ -11,12 +12,27 @@ ghost use Rattle.meaning.specs.Frames.{numberP, lengthP, bulkP, headP, typeP};
 ghost use Rattle.kinds.specs.Entries.{IsKinds};
 ghost use Rattle.text.specs.Numbers.{ShortAt};
 ghost use Rattle.leaf.specs.Leaves.{Reads};
-ghost use Rattle.resp2.specs.Heads.{Heads, countedP, leafP, kindP, numericP, shortP};
+ghost use Rattle.resp2.specs.Heads.{Heads, ofLeaf, countedP, leafP, kindP, numericP, shortP};
 
+// A leaf's three answers stand beside an array's, not within one: so the walk's loop tests one tag.
 pub enum Head {
-    Leaf(Leaf),
+    // words 0 to 3 of a leaf's row, and the cursor behind it
+    Row(u64, u64, u64, u64, Cursor),
+    // the number that it is refused with, and the place that settled it
+    Refused(u64, usize),
+    Unfinished,
     // an array: how many frames follow, and the cursor behind the count
     Holder(u64, Cursor),
+}
+
+fn as_head(l: Leaf) -> Head
+    ensures { λ r. ⌜ r ≡ ofLeaf l ⌝ }
+{
+    match l {
+        Leaf::Row(k, a, b, c, next) => Head::Row(k, a, b, c, next),
+        Leaf::Refused(k, at) => Head::Refused(k, at),
+        Leaf::Unfinished => Head::Unfinished,
+    }
 }
 
 // What follows a length worth n: a bulk string's text, or an array's frames.
@@ -27,7 +43,7 @@ fn counted(s: &[u8], k: u8, n: u64, c: Cursor) -> Head
     if k == kinds::ARRAY {
         return Head::Holder(n, c);
     }
-    Head::Leaf(leaf::bulk(s, kinds::BLOB_STRING as u64, c, n))
+    as_head(leaf::bulk(s, kinds::BLOB_STRING as u64, c, n))
 }
 
 // A bulk string or an array, behind its type byte: a length that is no short line.
@@ -37,7 +53,7 @@ fn long_head(s: &[u8], k: u8, c: Cursor) -> Head
 {
     match leaf::length_long(s, false, k as u64, c) {
         Counted::Count(n, next) => counted(s, k, n, next),
-        Counted::Not(l) => Head::Leaf(l),
+        Counted::Not(l) => as_head(l),
     }
 }
 
@@ -73,7 +89,7 @@ fn numeric_head(s: &[u8], k: u8, c: Cursor) -> Head
     ensures { λ r. ⌜ Heads (numericP k) (now (s .entry)) (c .at) r ⌝ }
 {
     if k == kinds::NUMBER {
-        return Head::Leaf(long_number(s, c));
+        return as_head(long_number(s, c));
     }
     long_head(s, k, c)
 }
@@ -84,7 +100,7 @@ fn short_head(s: &[u8], k: u8, v: u64, c: Cursor) -> Head
     ensures { λ r. ⌜ Heads (shortP k v) (now (s .entry)) (c .at) r ⌝ }
 {
     if k == kinds::NUMBER {
-        return Head::Leaf(Leaf::Row(kinds::NUMBER as u64, v, 0, 0, c));
+        return Head::Row(kinds::NUMBER as u64, v, 0, 0, c);
     }
     counted(s, k, v, c)
 }
@@ -108,10 +124,10 @@ fn kind_head(s: &[u8], k: u8, c: Cursor) -> Head
 {
     if k == 0 {
         let at = c.at;
-        return Head::Leaf(Leaf::Refused(1, at));
+        return Head::Refused(1, at);
     }
     if k < kinds::NUMBER {
-        return Head::Leaf(leaf::text_line(s, k as u64, c));
+        return as_head(leaf::text_line(s, k as u64, c));
     }
     match short_ahead(s, c) {
         Short::Got(v, next) => short_head(s, k, v, next),
@@ -126,7 +142,7 @@ pub fn head_at(s: &[u8], kinds: &[u8; 256], c: Cursor) -> Head
 {
     match c.byte(s) {
         Taken::Byte(b, next) => kind_head(s, kinds::kind_at(kinds, b), next),
-        Taken::More => Head::Leaf(Leaf::Unfinished),
+        Taken::More => Head::Unfinished,
     }
 }
 

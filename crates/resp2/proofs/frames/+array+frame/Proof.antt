@@ -165,13 +165,19 @@ frame-head-at-requires t c κs =
     let e = c .before .before .before .before in
     (e .pre .1 .within, e .pre .1 .lent)
 
-frame-enum-known-l : (t : ℕ) → frame-lts.Need-enum-known-l (frame-claims t) (frame-at t) frame.Post
-frame-enum-known-l t c = search needs
+frame-enum-known-k : (t : ℕ) → frame-lts.Need-enum-known-k (frame-claims t) (frame-at t) frame.Post
+frame-enum-known-k t c = search needs
 
 frame-leaf-row-requires : (t : ℕ) → frame-lts.Need-leaf-row-requires (frame-claims t) (frame-at t) frame.Post
 frame-leaf-row-requires t c κs =
     let e = c .before .before .before .before .before .before .before .before .before in
     omega (arith, c .before .before .before .before .before .if2 .left, e .pre .1 .few)
+
+frame-enum-known-k-2 : (t : ℕ) → frame-lts.Need-enum-known-k-2 (frame-claims t) (frame-at t) frame.Post
+frame-enum-known-k-2 t c = search needs
+
+frame-enum-told : (t : ℕ) → frame-lts.Need-enum-told (frame-claims t) (frame-at t) frame.Post
+frame-enum-told t c = search needs
 
 frame-enum-known-n : (t : ℕ) → frame-lts.Need-enum-known-n (frame-claims t) (frame-at t) frame.Post
 frame-enum-known-n t c = search needs
@@ -202,14 +208,28 @@ frame-returns-3 t c =
     let room = c .before .before .before .before .before .before .before .before .if2 .left in
     leaf-walks (frameP resp2 (e .args .depth - 1)) 0 _
     (by-head (e .args .s .now) (e .args .lim) (e .args .c .at) (e .args .used) (e .args .depth) (c .before .before .before .before .before .before .before .before .before .if1 .left) room
-    (subst (Heads (typeP resp2 (headP resp2)) (e .args .s .now) (e .args .c .at)) (c .before .before .before .before .before .l .given .1) (c .before .before .before .before .before .before .before .head-at .ensures)))
+    (subst (Heads (typeP resp2 (headP resp2)) (e .args .s .now) (e .args .c .at)) (c .before .before .before .before .before .k .given .1) (c .before .before .before .before .before .before .before .head-at .ensures)))
     room (e .pre .1 .few) (c .before .before .leaf-row .ensures)
+
+frame-returns-4 : (t : ℕ) → frame-lts.Need-returns-4 (frame-claims t) (frame-at t) frame.Post
+frame-returns-4 t c =
+    let e = c .before .before .before .before .before .before .before .before .args in
+    walks-refused
+    (by-head (e .s .now) (e .lim) (e .c .at) (e .used) (e .depth) (c .before .before .before .before .before .if1 .left) (c .before .before .before .before .if2 .left)
+    (subst (Heads (typeP resp2 (headP resp2)) (e .s .now) (e .c .at)) (c .before .k2 .given .1) (c .before .before .before .head-at .ensures)))
+
+frame-returns-5 : (t : ℕ) → frame-lts.Need-returns-5 (frame-claims t) (frame-at t) frame.Post
+frame-returns-5 t c =
+    let e = c .before .before .before .before .before .before .before .args in
+    walks-unfinished
+    (by-head (e .s .now) (e .lim) (e .c .at) (e .used) (e .depth) (c .before .before .before .before .if1 .left) (c .before .before .before .if2 .left)
+    (subst (Heads (typeP resp2 (headP resp2)) (e .s .now) (e .c .at)) (c .enum-told .given .1) (c .before .before .head-at .ensures)))
 
 frame-same-length-2 : (t : ℕ) → frame-lts.Need-same-length-2 (frame-claims t) (frame-at t) frame.Post
 frame-same-length-2 t c = c .before .before .array .kept .1 .0
 
-frame-returns-4 : (t : ℕ) → frame-lts.Need-returns-4 (frame-claims t) (frame-at t) frame.Post
-frame-returns-4 t c =
+frame-returns-6 : (t : ℕ) → frame-lts.Need-returns-6 (frame-claims t) (frame-at t) frame.Post
+frame-returns-6 t c =
     let e = c .before .before .before .before .before .before .before .before .before .before .before .before in
     let u : e .args .used + 1 - 1 ≡ e .args .used = omega arith in
     walks-as
@@ -253,13 +273,17 @@ pub +array+frame-spec : {M : Type 1} → statement M
     (frame-returns t)
     (frame-returns-2 t)
     (frame-head-at-requires t)
-    (frame-enum-known-l t)
+    (frame-enum-known-k t)
     (frame-leaf-row-requires t)
+    (frame-enum-known-k-2 t)
+    (frame-enum-told t)
     (frame-enum-known-n t)
     (frame-add-array t)
     (frame-sub-array t)
     (frame-array-requires t)
     (frame-same-length t)
     (frame-returns-3 t)
-    (frame-same-length-2 t)
     (frame-returns-4 t)
+    (frame-returns-5 t)
+    (frame-same-length-2 t)
+    (frame-returns-6 t)

@@ -15,10 +15,13 @@ cast-bulk c = search needs
 bulk-requires : tie.Need-bulk-requires
 bulk-requires c κs = search needs
 
+as-head-requires : tie.Need-as-head-requires
+as-head-requires c κs = search needs
+
 returns-2 : tie.Need-returns-2
 returns-2 c =
-    let e = c .before .before .before .args in
-    counted-text (e .s .now) (e .k) (e .n) (e .c) (c .before .if1 .left) (c .bulk .ensures)
+    let e = c .before .before .before .before .args in
+    counted-text (e .s .now) (e .k) (e .n) (e .c) (c .before .before .if1 .left) (c .as-head .ensures) (c .before .bulk .ensures)
 
 pub counted-spec : {M : Type 1} → statement M
-counted-spec = tie.close (tie.spec returns cast-bulk bulk-requires returns-2)
+counted-spec = tie.close (tie.spec returns cast-bulk bulk-requires as-head-requires returns-2)

@@ -18,10 +18,13 @@ returns c =
 text-line-requires : tie.Need-text-line-requires
 text-line-requires c κs = search needs
 
+as-head-requires : tie.Need-as-head-requires
+as-head-requires c κs = search needs
+
 returns-2 : tie.Need-returns-2
 returns-2 c =
-    let e = c .before .before .before .before .args in
-    kind-text (e .s .now) (e .c .at) (e .k) (c .before .before .if1 .left) (c .before .if2 .taken) (c .text-line .ensures)
+    let e = c .before .before .before .before .before .args in
+    kind-text (e .s .now) (e .c .at) (e .k) (c .before .before .before .if1 .left) (c .before .before .if2 .taken) (c .as-head .ensures) (c .before .text-line .ensures)
 
 short-ahead-requires : tie.Need-short-ahead-requires
 short-ahead-requires c κs = search needs
@@ -60,6 +63,7 @@ kind-head-spec =
     (tie.spec
     returns
     text-line-requires
+    as-head-requires
     returns-2
     short-ahead-requires
     enum-known-v

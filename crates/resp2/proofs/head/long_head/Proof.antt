@@ -22,6 +22,9 @@ counted-requires c κs =
 enum-known-l : tie.Need-enum-known-l
 enum-known-l c = search needs
 
+as-head-requires : tie.Need-as-head-requires
+as-head-requires c κs = search needs
+
 returns : tie.Need-returns
 returns c =
     let e = c .before .before .before .before .before .before .args in
@@ -30,11 +33,11 @@ returns c =
 
 returns-2 : tie.Need-returns-2
 returns-2 c =
-    let e = c .before .before .before .before .before .args in
-    length-other (e .s .now) (e .c .at) (e .k)
-    (subst (Counts false (e .k) (e .s .now) (e .c .at)) (c .before .l .given .1) (c .before .before .before .length-long .ensures))
+    let e = c .before .before .before .before .before .before .args in
+    length-other (e .s .now) (e .c .at) (e .k) (c .as-head .ensures)
+    (subst (Counts false (e .k) (e .s .now) (e .c .at)) (c .before .before .l .given .1) (c .before .before .before .before .length-long .ensures))
 
 pub long-head-spec : {M : Type 1} → statement M
 long-head-spec =
     tie.close
-    (tie.spec length-long-requires enum-known-n counted-requires enum-known-l returns returns-2)
+    (tie.spec length-long-requires enum-known-n counted-requires enum-known-l as-head-requires returns returns-2)
