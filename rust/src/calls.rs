@@ -105,8 +105,8 @@ pub fn resp3_stream(src: &[u8], table: &mut [u64]) -> Decoded {
     unsafe { raw::imrazgul_resp3_stream(src.as_ptr(), src.len(), table.as_mut_ptr(), table.len()) }
 }
 
-/// Decodes the RESP2 frame at a place of `src`: bytes are counted from the place, offsets from the front of `src`, and a
-/// place behind the end is like the end.
+/// Decodes the RESP2 frame at a place of `src`: bytes are counted from the place, offsets from the front of `src`, and
+/// a place behind the end is like the end.
 #[inline]
 pub fn resp2_decode_at(src: &[u8], at: usize, table: &mut [u64]) -> Decoded {
     unsafe { raw::imrazgul_resp2_decode_at(src.as_ptr(), src.len(), at, table.as_mut_ptr(), table.len()) }

@@ -39,7 +39,8 @@ impl Decoder {
 /// ```
 #[derive(Clone, Copy, Debug)]
 pub struct Reader<'s> {
-    decoder: Decoder,
+    /// What reads the next frame; a connection may change its protocol midway.
+    pub decoder: Decoder,
     src: &'s [u8],
     at: usize,
 }
@@ -80,8 +81,8 @@ impl<'s> Reader<'s> {
     }
 }
 
-/// The frames of a buffer, by [`Reader::frames`]. A refusal is the last item: [`Refusal::TableFull`] where the table has no
-/// rows left for the next frame, with [`reader`](Frames::reader) to go on from there with a fresh one.
+/// The frames of a buffer, by [`Reader::frames`]. A refusal is the last item: [`Refusal::TableFull`] where the table has
+/// no rows left for the next frame, with [`reader`](Frames::reader) to go on from there with a fresh one.
 ///
 /// ```
 /// use imrazgul::{Decoder, Reader, Row};

@@ -1,5 +1,5 @@
 //! Rows of a table that a decode wrote, seen as frames.
-use crate::{MOST_ROWS, ROW_WORDS};
+use crate::ROW_WORDS;
 use core::fmt;
 
 /// What a row is: word 0. The numbers are the library's.
@@ -174,7 +174,7 @@ impl<'s, 't> Row<'s, 't> {
     /// The frames directly beneath it, in the order of the wire: a Map's and an attribute's keys and values in turn, a
     /// Hello's fields. Attributes are passed over: each frame has its own by [`attribute`](Row::attribute).
     pub fn children(&self) -> Children<'s, 't> {
-        Children { next: Row { index: self.index + 1, ..*self }, end: self.index + self.span() }
+        Children { holder: *self, next: self.index + 1, end: self.index + self.span() }
     }
 }
 
@@ -187,7 +187,8 @@ impl fmt::Debug for Row<'_, '_> {
 /// The frames directly beneath a row, by [`Row::children`].
 #[derive(Clone, Debug)]
 pub struct Children<'s, 't> {
-    next: Row<'s, 't>,
+    holder: Row<'s, 't>,
+    next: usize,
     end: usize,
 }
 
@@ -195,19 +196,15 @@ impl<'s, 't> Iterator for Children<'s, 't> {
     type Item = Row<'s, 't>;
 
     fn next(&mut self) -> Option<Row<'s, 't>> {
-        if self.next.index >= self.end {
+        if self.next >= self.end {
             return None;
         }
-        if self.next.kind() == Kind::Attribute {
-            self.next.index += self.next.span();
+        let mut row = Row { index: self.next, ..self.holder };
+        if row.kind() == Kind::Attribute {
+            row.index += row.span();
         }
-        let row = self.next;
-        self.next.index += row.span();
+        self.next = row.index + row.span();
         Some(row)
-    }
-
-    fn size_hint(&self) -> (usize, Option<usize>) {
-        (0, Some((self.end - self.next.index.min(self.end)).min(MOST_ROWS)))
     }
 }
 

@@ -60,7 +60,9 @@ fn attributes_are_passed_over_and_found_at_their_frames() {
         assert_eq!((row.kind(), row.value(), row.children().count()), (Kind::Array, Value::Children(3), 3));
         let attribute = row.attribute().unwrap();
         assert_eq!((attribute.kind(), attribute.children().count()), (Kind::Attribute, 2));
-        let children: Vec<_> = row.children().collect();
+        let mut at_end = row.children();
+        let children: Vec<_> = at_end.by_ref().collect();
+        assert!(at_end.next().is_none() && format!("{at_end:?}").contains("Array"));
         assert_eq!((children[0].value(), children[2].value()), (Value::Number(5), Value::Number(7)));
         assert!(children[0].attribute().is_none() && children[2].attribute().is_none());
         let (six, own) = (children[1].children().next().unwrap(), children[1].attribute().unwrap());
