@@ -35,7 +35,7 @@ extern "C" {
 #define IMRAZGUL_MOST_ROWS 4096
 #define IMRAZGUL_MOST_WORDS 24576 /* of the largest table that is used */
 #define IMRAZGUL_MOST_DEPTH 32    /* frames in one another, the top one counted */
-#define IMRAZGUL_STACK 24576      /* bytes: measured (docs/BENCH.md), and a quarter more */
+#define IMRAZGUL_STACK 24576      /* bytes; bench/stack holds it to a bound from the object code */
 
 /* The words of a row, by what they hold. */
 enum imrazgul_word {
