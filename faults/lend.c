@@ -7,9 +7,9 @@
  * tokens: the longest strings of tokens. frames: how many are made by chance, from seed. each: how many frames of a FILE of
  * recorded ones are taken. faults/README.md names the commands that build and run it, and what watches it besides.
  *
- * Not run, since imrazgul.h forbids it: a null pointer, also with length 0; a length past what the pointer has; a table that
- * is not aligned to 8 bytes; parts lent to one call that overlap, unless both are only read; a bool that is neither 0 nor 1;
- * fewer than 20 bytes for digits; and a call while another thread writes what it was lent.
+ * Not run, since imrazgul.h forbids it: a null pointer with a length other than 0; a length past what the pointer has; a
+ * table that is not aligned to 8 bytes; parts lent to one call that overlap, unless both are only read; a bool that is
+ * neither 0 nor 1; fewer than 20 bytes for digits; and a call while another thread writes what it was lent.
  *
  * No header of the C library is included: include/x86-64 says why. */
 #include "imrazgul.h"
@@ -98,7 +98,8 @@ struct area {
     bool written; /* whether the library may write it */
 };
 
-enum side { FRONT, BACK, SIDES };
+/* Where a part is lent: at the front of its area, at the back, or, of parts that are empty, nowhere: by a null pointer. */
+enum side { FRONT, BACK, NOWHERE };
 
 static struct area make(size_t bytes, bool written) {
     enum { NONE = 0, READ = 1, READ_AND_WRITE = 3, SHARED = 1, PRIVATE = 2, FIXED = 16, ANONYMOUS = 32 };
@@ -156,7 +157,7 @@ static uint8_t *lend(struct area *a, enum side side, const void *from, size_t n)
     a->n = n;
     memcpy(a->ours + a->at, from, n);
     watch(a, true);
-    return a->lent + a->at;
+    return side == NOWHERE && n == 0 ? NULL : a->lent + a->at;
 }
 
 /* Ends a loan; of what was written the first bytes are the answer's, and have to be defined. */
@@ -181,21 +182,71 @@ static uint8_t byte_marks[MOST_BYTES];
 /* ---- decoders ---- */
 
 typedef struct imrazgul_decoded decoder(const uint8_t *src, size_t src_len, uint64_t *table, size_t words);
+typedef struct imrazgul_decoded decoder_at(const uint8_t *src, size_t src_len, size_t at, uint64_t *table, size_t words);
 
 static const struct {
     const char *name;
     decoder *decode;
+    const char *name_at;
+    decoder_at *decode_at;
     bool streaming;
 } decoders[] = {
-    {"imrazgul_resp2_decode", imrazgul_resp2_decode, false},
-    {"imrazgul_resp3_decode", imrazgul_resp3_decode, false},
-    {"imrazgul_resp3_stream", imrazgul_resp3_stream, true},
+    {"imrazgul_resp2_decode", imrazgul_resp2_decode, "imrazgul_resp2_decode_at", imrazgul_resp2_decode_at, false},
+    {"imrazgul_resp3_decode", imrazgul_resp3_decode, "imrazgul_resp3_decode_at", imrazgul_resp3_decode_at, false},
+    {"imrazgul_resp3_stream", imrazgul_resp3_stream, "imrazgul_resp3_stream_at", imrazgul_resp3_stream_at, true},
 };
+
+/* What stands before a place that is decoded from; it is not a frame. */
+static const char before[] = "$9\r";
+enum { PLACE = sizeof before - 1 };
+
+/* Whether words 1 and 2 of such a row are offsets. */
+static bool has_text(uint64_t kind) {
+    return kind != IMRAZGUL_NUMBER && kind != IMRAZGUL_BOOLEAN && kind != IMRAZGUL_NULL && kind != IMRAZGUL_END_STREAM &&
+           (kind < IMRAZGUL_ARRAY || kind >= IMRAZGUL_HELLO_USER);
+}
 
 /* The rows of the last frame. */
 static uint64_t rows[6 * MOST_ROWS];
 
 static bool whole(struct imrazgul_decoded d) { return d.answer == IMRAZGUL_FRAME || d.answer == IMRAZGUL_MARKER; }
+
+/* The same bytes behind others: the same answer, with offsets from the front. */
+static void decodes_at(size_t which, const uint8_t *src, size_t n, size_t words, struct imrazgul_decoded want) {
+    static uint8_t shifted[PLACE + MOST_BYTES];
+    memcpy(shifted, before, PLACE);
+    memcpy(shifted + PLACE, src, n);
+    call = decoders[which].name_at;
+    for (enum side side = FRONT; side <= (words == 0 ? NOWHERE : BACK); side++) {
+        const uint8_t *s = lend(&source, side, shifted, PLACE + n);
+        uint64_t *t = (uint64_t *)(void *)lend(&table, side, marks, 8 * words);
+        struct imrazgul_decoded said = decoders[which].decode_at(s, PLACE + n, PLACE, t, words);
+        calls++;
+        same("answer from a place", said.answer, want.answer);
+        same("refusal from a place", said.refusal, want.refusal);
+        same("consumed from a place", said.consumed, want.consumed);
+        same("rows from a place", said.rows, want.rows);
+        size_t used = whole(want) ? 6 * want.rows : 0;
+        same("the source, changed", memcmp(back(&source, 0), shifted, PLACE + n) != 0, 0);
+        const uint64_t *is = (const uint64_t *)(const void *)back(&table, 8 * used);
+        same("words that are not the answer's, changed", memcmp(is + used, marks + used, 8 * (words - used)) != 0, 0);
+        for (size_t i = 0; i < used; i++) {
+            bool offset = (i % 6 == 1 || i % 6 == 2) && has_text(rows[i - i % 6]);
+            same("a word from a place", is[i], rows[i] + (offset ? PLACE : 0));
+        }
+        /* at the end, and behind it */
+        const size_t ends[] = {n, n + 1, SIZE_MAX};
+        s = lend(&source, side, src, n);
+        for (size_t i = 0; i < COUNT(ends) && n < 8 && words == 12; i++) {
+            t = (uint64_t *)(void *)lend(&table, side, marks, 8 * words);
+            said = decoders[which].decode_at(s, n, ends[i], t, words);
+            calls++;
+            same("answer from the end on", said.answer, IMRAZGUL_UNFINISHED);
+            same("words, changed", memcmp(back(&table, 0), marks, 8 * words) != 0, 0);
+        }
+        back(&source, 0);
+    }
+}
 
 /* One case at both ends: n bytes decoded into a table of so many words. */
 static struct imrazgul_decoded decodes(size_t which, const uint8_t *src, size_t n, size_t words) {
@@ -204,7 +255,7 @@ static struct imrazgul_decoded decodes(size_t which, const uint8_t *src, size_t 
     input = src;
     input_len = n;
     cases++;
-    for (enum side side = FRONT; side < SIDES; side++) {
+    for (enum side side = FRONT; side <= (n == 0 || words == 0 ? NOWHERE : BACK); side++) {
         const uint8_t *s = lend(&source, side, src, n);
         uint64_t *t = (uint64_t *)(void *)lend(&table, side, marks, 8 * words);
         struct imrazgul_decoded said = decoders[which].decode(s, n, t, words);
@@ -237,6 +288,7 @@ static struct imrazgul_decoded decodes(size_t which, const uint8_t *src, size_t 
             same("words of the rows at the other end", memcmp(rows, is, 8 * used) != 0, 0);
         }
     }
+    decodes_at(which, src, n, words, first);
     return first;
 }
 
@@ -300,13 +352,13 @@ static void encodes(const uint8_t *src, size_t n, const uint64_t *words, size_t 
     input = src;
     input_len = n;
     cases++;
-    for (enum side side = FRONT; side < SIDES; side++) {
+    for (enum side side = FRONT; side <= (n == 0 || count == 0 ? NOWHERE : BACK); side++) {
         const uint8_t *s = lend(&source, side, src, n);
         const uint64_t *t = (const uint64_t *)(const void *)lend(&rows_read, side, words, 8 * count);
         call = "imrazgul_resp2_length";
         struct imrazgul_encoded length = imrazgul_resp2_length(s, n, t, count, flag);
         calls++;
-        if (side == BACK) {
+        if (side != FRONT) {
             same("refusal at the other end", length.refusal, asked.refusal);
             same("bytes at the other end", length.bytes, asked.bytes);
         }
@@ -321,7 +373,7 @@ static void encodes(const uint8_t *src, size_t n, const uint64_t *words, size_t 
         size_t few = asked.bytes <= 24 ? 0 : asked.bytes - 1;
         call = "imrazgul_resp2_encode";
         for (size_t room = 0; room <= asked.bytes + 1; room = room < few ? few : room + 1) {
-            uint8_t *o = lend(&output, side, byte_marks, room);
+            uint8_t *o = lend(&output, room == 0 && side == FRONT ? NOWHERE : side, byte_marks, room);
             struct imrazgul_encoded said = imrazgul_resp2_encode(s, n, t, count, flag, o, room);
             calls++;
             bool fits = asked.refusal == 0 && room >= asked.bytes;
@@ -369,7 +421,7 @@ static void digits(void) {
     static const uint8_t zeros[20];
     input_len = 0;
     for (size_t i = 0; i < COUNT(numbers); i++) {
-        for (enum side side = FRONT; side < SIDES; side++) {
+        for (enum side side = FRONT; side <= BACK; side++) {
             cases++;
             calls += 2;
             call = "imrazgul_u64_digits";
@@ -630,7 +682,7 @@ int main(int count, char **words) {
     for (size_t i = 0; i < COUNT(byte_marks); i++) {
         byte_marks[i] = (uint8_t)(0x80 + i % 101);
     }
-    source = make(MOST_BYTES, false);
+    source = make(PLACE + MOST_BYTES, false);
     table = make(8 * 6 * MOST_ROWS, true);
     rows_read = make(8 * 6 * MOST_ROWS, false);
     output = make(MOST_BYTES, true);

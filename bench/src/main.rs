@@ -230,6 +230,8 @@ fn main() {
     let millis = key("millis").map_or(400, |v| v.parse().expect("millis=NUMBER"));
     let works = work::all(key("traffic"));
     println!("# Times\n");
+    // what is measured beside ours, and where: bench/run says it
+    println!("{}.\n", std::env::var("BENCH_BESIDE").expect("bench/run runs this"));
     println!("Least of many turns of about 0.1 ms, the ways taking turns on one thread, {millis} ms an input. Our tables have 4,096");
     println!("rows; neither they nor the outputs are cleared between calls. The crate's time has the freeing of its frame in it,");
     println!("hiredis's the copy into its reader's buffer (a pipeline's in pieces of 16 KiB) and, with objects, their freeing; where");
