@@ -38,6 +38,14 @@ impl Table {
     }
 }
 
+pub fn decode_at(protocol: Protocol, buf: &[u8], at: usize, table: &mut [u64]) -> Decoded {
+    match protocol {
+        Protocol::Resp2 => imrazgul::resp2_decode_at(buf, at, table),
+        Protocol::Resp3 => imrazgul::resp3_decode_at(buf, at, table),
+        Protocol::Stream => imrazgul::resp3_stream_at(buf, at, table),
+    }
+}
+
 pub fn decode(protocol: Protocol, buf: &[u8], table: &mut [u64]) -> Decoded {
     match protocol {
         Protocol::Resp2 => imrazgul::resp2_decode(buf, table),

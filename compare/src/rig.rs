@@ -170,8 +170,39 @@ impl Rig {
         }
     }
 
-    /// Tables that are exactly full, one row short, empty, or hold words that make no row.
+    /// The same bytes behind others, from their place on: the same answer, with offsets from the front. From the end on and
+    /// behind it, the answer to no bytes.
+    fn places(&mut self, buf: &[u8], said: Decoded) {
+        let before = 1 + buf.len() % 9;
+        let used = 6 * said.rows as usize;
+        ours::decode(self.protocol, buf, &mut self.table.words);
+        let mut rows = self.table.words[..used].to_vec();
+        for row in rows.chunks_exact_mut(6).filter(|r| has_text(r[0])) {
+            row[1] += before as u64;
+            row[2] += before as u64;
+        }
+        self.table.restore(used);
+        let shifted = [&b"*1\r\n$1\r\na"[..before], buf].concat();
+        let got = ours::decode_at(self.protocol, &shifted, before, &mut self.table.words);
+        if got != said || self.table.words[..used] != rows[..] || !self.table.untouched_from(used) {
+            self.tally.differ(buf, format!("{said:?}, and from place {before} {got:?}"));
+            self.table.restore_all();
+        }
+        self.table.restore(used);
+        let nothing = Decoded { answer: 0, refusal: 0, consumed: 0, rows: 0 };
+        for at in [buf.len(), buf.len() + before, usize::MAX] {
+            let got = ours::decode_at(self.protocol, buf, at, &mut self.table.words);
+            if got != nothing || !self.table.untouched_from(0) {
+                self.tally.differ(buf, format!("from place {at} {got:?}"));
+                self.table.restore_all();
+            }
+        }
+        self.tally.places += 4;
+    }
+
+    /// Tables that are exactly full, one row short, empty, or hold words that make no row; and calls from a place.
     pub fn tables(&mut self, buf: &[u8], said: Decoded) {
+        self.places(buf, said);
         let expect = |rig: &mut Rig, words: usize, wanted: &[Decoded]| -> Decoded {
             let (got, fault) = rig.call(buf, words);
             rig.table.restore_all();
@@ -219,6 +250,11 @@ impl Rig {
             same |= got == said;
         }
     }
+}
+
+/// Whether words 1 and 2 of a row of this kind are offsets.
+fn has_text(kind: u64) -> bool {
+    [1, 2, 4, 7, 8, 9, 10, 11, 20, 21, 22].contains(&kind)
 }
 
 /// Has a panic print the buffer that the crate or our library was given.

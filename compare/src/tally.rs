@@ -15,6 +15,8 @@ pub struct Tally {
     pub chance: u64,
     /// Calls on tables exactly full, short or with words to spare.
     pub tables: u64,
+    /// Calls from a place.
+    pub places: u64,
     pub differences: u64,
     pub smallest: Option<(Vec<u8>, String)>,
 }
@@ -36,7 +38,7 @@ impl Tally {
             (1..=9).filter(|k| self.refused[*k] > 0).map(|k| format!("{k}: {}", commas(self.refused[k]))).collect();
         println!("  refused {}", refused.join(", "));
         println!("  outside the domain: 10: {}, 11: {}", commas(self.refused[10]), commas(self.refused[11]));
-        println!("  calls on full, short and odd tables {}", commas(self.tables));
+        println!("  calls on full, short and odd tables {}, from a place {}", commas(self.tables), commas(self.places));
         println!(
             "  counts put down for the crate (A2) {}, left to chance (A4) {}",
             commas(self.put_down),
