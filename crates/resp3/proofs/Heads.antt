@@ -1,27 +1,25 @@
 -- A RESP3 frame's first lines, by the answers of the leaves and lengths below them.
 use mathlib.Core.Path.{_≡_, refl, sym, ap, subst, fun-ext, _∙_}
 use mathlib.Core.List.{List}
-use mathlib.Core.Bool.{Bool, true, false}
+use mathlib.Core.Bool.{Bool, true, false, _||_}
 use Prim.Native.Nat.{ℕ, _≤_, _<_}
 use native.Mathlib.Omega.{arith}
 use lib.ListN.{length}
 use lib.Dec.{ltb, eqb}
-use borrow.Author.Tests.{eq-eqb, ne-eqb, le-leb, lt-leb, ltb-true, ltb-false}
+use borrow.Author.Tests.{eq-eqb, ne-eqb, le-leb, lt-leb, ltb-true, ltb-false, eqb-true}
 use Rattle.meaning.specs.Choice.{pick}
 use Rattle.meaning.specs.Prog.{Prog, ret, refuse, run, Out}
 use Rattle.meaning.specs.ProgLaws.{Bounded, bounded}
-use Rattle.meaning.specs.Kinds.{Profile, resp3, Number, Verbatim, ChunkedString, Array, Hello}
-use Rattle.meaning.specs.Frames.{Step, leaf, numberP, lengthP, bulkP, verbatimP, chunkP, headP}
-use Rattle.text.specs.Numbers.{ShortLine}
+use Rattle.meaning.specs.Kinds.{resp3, SimpleString, SimpleError, Number, Null, Array, Hello}
+use Rattle.meaning.specs.Frames.{Step, textLineP, numberP, lengthP, headP}
 use Rattle.text.specs.declared.Cursor.{Cursor}
 use Rattle.leaf.specs.Leaves.{Reads, Counts}
 use Rattle.leaf.specs.declared.Leaf.{Leaf}
 use Rattle.leaf.specs.declared.Leaf.the-variants as Leaf
 use Rattle.leaf.specs.declared.Counted.the-variants as Counted
-use Rattle.leaf.proofs.Leaves.{short-number, short-count}
 use Rattle.leaf3.specs.Answers.{Greets}
 use Rattle.leaf3.specs.declared.Greeted.{Greeted}
-use Rattle.resp3.specs.Heads.{Heads, Says, outHead, textP, countedP, numericP, shortP, plainP, onDigits, kindP}
+use Rattle.resp3.specs.Heads.{Heads, Says, outHead, textP, countedP, numericP, plainP, onDigits, kindP}
 use Rattle.resp3.specs.declared.head.Head.{Head}
 use Rattle.resp3.specs.declared.head.Head.the-variants as Head
 
@@ -62,24 +60,6 @@ module _ (s : List ℕ) (at k : ℕ) where
 
   pub numeric-length : {h : Head} → (k ≡ Number → ⊥) → Says (lengthP resp3 k (countedP k)) k s at h → Says (numericP k) k s at h
   numeric-length e w = rw (ne-eqb k Number e) w
-
--- behind a short line worth v
-module _ (s : List ℕ) (k v : ℕ) (c : Cursor) where
-  pub short-value : k ≡ Number → Says (shortP k v) k s (c .at) (Head.Leaf (Leaf.Row Number v 0 0 c))
-  unfolding run
-  short-value e = rw (eq-eqb k Number e) (record { means = λ from lim used. refl; places = λ from. tt })
-
-  pub short-length : {h : Head} → (k ≡ Number → ⊥) → Says (countedP k v) k s (c .at) h → Says (shortP k v) k s (c .at) h
-  short-length e w = rw (ne-eqb k Number e) w
-
-  -- it says what the line of any length says
-  pub short-numeric : {most at : ℕ} {h : Head} → ShortLine most s at v (c .at) → Says (shortP k v) k s (c .at) h → Says (numericP k) k s at h
-  unfolding run
-  short-numeric {most} {at} {h} w = go (eqb k Number)
-    where
-      go : (b : Bool) → Says (pick b (ret (leaf Number v 0 0)) (countedP k v)) k s (c .at) h → Says (pick b (numberP resp3) (lengthP resp3 k (countedP k))) k s at h
-      go true x = record { means = λ from lim used. short-number s at v c w resp3 .means lim used ∙ x .means from lim used; places = x .places }
-      go false x = length-count s at k (short-count s at v c w true k) x
 
 -- ---- by the kind
 
@@ -161,3 +141,29 @@ module _ (s : List ℕ) (at k : ℕ) (low : k < Array) {l : Leaf} where
 
   pub leaf-plain : onDigits k ≡ false → Reads (plainP k) s at l → Reads (headP resp3 k) s at l
   leaf-plain d w = reads-by (by-kind k ∙ rw (d, ne-eqb k Hello (λ e. omega arith))) w
+
+-- ---- near leaves
+
+-- a line of text
+pub near-text : (s : List ℕ) (at k : ℕ) {l : Leaf} → (eqb k SimpleString || eqb k SimpleError) ≡ true → Reads (textLineP resp3 k) s at l → (k < Array) × Reads (headP resp3 k) s at l
+unfolding headP
+near-text s at k {l} e w = go (eqb k SimpleString) refl
+  where
+    Said : ℕ → Type 0
+    Said n = Reads (textLineP resp3 n) s at l → (n < Array) × Reads (headP resp3 n) s at l
+
+    go : (b : Bool) → eqb k SimpleString ≡ b → (k < Array) × Reads (headP resp3 k) s at l
+    go true h = subst Said (sym (eqb-true k SimpleString h)) (λ v. (omega arith, v)) w
+    go false h = let f : eqb k SimpleError ≡ true = rw h at e in subst Said (sym (eqb-true k SimpleError f)) (λ v. (omega arith, v)) w
+
+-- no digits, and no text of another kind
+pub near-line : (k : ℕ) → k ≤ Null → (k ≡ Number → ⊥) → headP resp3 k ≡ plainP k
+near-line k h n =
+    by-kind k
+    ∙ rw (
+      ne-eqb k 3 n,
+      lt-leb 7 k (omega arith),
+      ne-eqb k 11 (λ e. omega arith),
+      lt-leb 13 k (omega arith),
+      ne-eqb k 18 (λ e. omega arith),
+    )

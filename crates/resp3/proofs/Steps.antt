@@ -13,7 +13,7 @@ use Rattle.meaning.specs.Choice.{pick}
 use Rattle.meaning.specs.Demand.{bytes, serves}
 use Rattle.meaning.specs.Prog.{Prog, ret, refuse, room, here, ask, bind, roomed, served, run, Out, done, refused, unfinished}
 use Rattle.meaning.specs.ProgLaws.{then, run-bind, When, Within, Bounded, bounded, Gives, gives-run, gives-bind, weighs-run}
-use Rattle.meaning.specs.Kinds.{resp3, kindOf, mayCarry, Attribute}
+use Rattle.meaning.specs.Kinds.{resp3, kindOf, mayCarry, Array, Attribute}
 use Rattle.meaning.specs.Rows.{Node, nodeOf, Forest, end, item, join, frameKind, mayHold, span, words, rowWidth}
 use Rattle.meaning.specs.RowsLaws.{words-join, length-words}
 use Rattle.meaning.specs.Frames.{Step, holder, headP, bodyP, typeP, framesP, restP, carriesP, annotatedP, attributeP, frameP}
@@ -22,6 +22,8 @@ use Rattle.meaning.specs.KeyLaws.{attribute-head}
 use Rattle.meaning.specs.RunLaws.{mapOut, type-there, type-short, frame-deep, frame-full, holder-run, over}
 use Rattle.rows.specs.RowLaws.{sets-append}
 use Rattle.text.specs.declared.Cursor.{Cursor}
+use Rattle.leaf.specs.Leaves.{outLeaf, Reads}
+use Rattle.leaf.specs.declared.Leaf.{Leaf}
 use Rattle.walk.specs.Walks.{walkOf, Wrote, Walks}
 use Rattle.walk.specs.declared.Walk.{Walk}
 use Rattle.walk.specs.declared.Walk.the-variants as Walk
@@ -29,6 +31,7 @@ use Rattle.walk.proofs.Said.{done-run}
 use Rattle.resp3.specs.Heads.{Heads, outHead}
 use Rattle.resp3.specs.Tops.{typedP}
 use Rattle.resp3.specs.declared.head.Head.{Head}
+use Rattle.resp3.specs.declared.head.Head.the-variants as Head
 
 -- ---- a frame
 
@@ -59,13 +62,16 @@ module _ (s : List ℕ) (lim at used d : ℕ) where
         unfolding choice
         frame-typed = chosen
 
-        pub frame-attribute : k ≡ Attribute → run (frameP resp3 d) s lim at used ≡ run (attributeP resp3 (frameP resp3 (d - 1))) s lim (at + 1) (used + 1)
-        unfolding choice
-        frame-attribute q = chosen ∙ rw (eq-eqb k Attribute q)
-
         pub frame-body : (k ≡ Attribute → ⊥) → run (frameP resp3 d) s lim at used ≡ run (bodyP resp3 (frameP resp3 (d - 1)) 0 k) s lim (at + 1) (used + 1)
         unfolding choice
         frame-body q = chosen ∙ rw (ne-eqb k Attribute q)
+
+module _ (d k : ℕ) {s : List ℕ} {lim at used row : ℕ} {t₀ t₁ : List ℕ} {r : Walk} where
+  pub typed-attribute : k ≡ Attribute → Walks (attributeP resp3 (frameP resp3 d)) s lim at used row t₀ t₁ r → Walks (typedP d k) s lim at used row t₀ t₁ r
+  typed-attribute e w = rw (eq-eqb k Attribute e) w
+
+  pub typed-body : (k ≡ Attribute → ⊥) → Walks (bodyP resp3 (frameP resp3 d) 0 k) s lim at used row t₀ t₁ r → Walks (typedP d k) s lim at used row t₀ t₁ r
+  typed-body e w = rw (ne-eqb k Attribute e) w
 
 -- ---- the frame of an attribute
 
@@ -286,3 +292,9 @@ pub body-head : (p : Prog Forest) (w k : ℕ) (s : List ℕ) (lim at used : ℕ)
     → run (bodyP resp3 p w k) s lim at used ≡ then (outHead k at used h) (λ st n u. run (restP p w st) s lim n u)
 body-head p w k s lim at used v =
     run-bind (headP resp3 k) (restP p w) s lim at used ∙ ap (λ (o : Out Step). then o (λ st n u. run (restP p w st) s lim n u)) (v .means lim used)
+
+-- a frame whose kind has no children, by its leaf
+pub frame-leaf : (s : List ℕ) (lim at used d : ℕ) → (d ≡ 0 → ⊥) → used < lim → at < length s → {k : ℕ} → k ≡ kindOf resp3 (getD s at 0) → k < Array → {l : Leaf} → Reads (headP resp3 k) s (at + 1) l
+    → run (frameP resp3 d) s lim at used ≡ then (outLeaf (used + 1) l) (λ st n u. run (restP (frameP resp3 (d - 1)) 0 st) s lim n u)
+frame-leaf s lim at used d deep fits there {k} e low {l} w =
+    frame-body s lim at used d deep fits there e (λ q. omega (arith, low, q)) ∙ body-head (frameP resp3 (d - 1)) 0 k s lim (at + 1) (used + 1) {h = Head.Leaf l} (record { means = w .means; places = tt })

@@ -7,7 +7,7 @@ use Prim.Native.Nat.{ℕ, zero, suc, _+_, _-_, _*_, _≤_, _<_}
 use native.Mathlib.Omega.{arith}
 use lib.ListN.{length, take, getD}
 use lib.Dec.{eqb}
-use borrow.Author.Tests.{eq-eqb, ne-eqb}
+use borrow.Author.Tests.{ne-eqb}
 use Rattle.meaning.specs.Choice.{pick}
 use Rattle.meaning.specs.Demand.{bytes, line}
 use Rattle.meaning.specs.Text.{Length, count, minusOne}
@@ -138,13 +138,6 @@ pub typed-fills : (d k : ℕ) → Weighs 1 span (typedP d k)
 typed-fills d k =
     weighs-pick span 1 (eqb k Attribute) (attributeP resp3 (frameP resp3 d)) (bodyP resp3 (frameP resp3 d) 0 k) (attribute-fills resp3 (frameP resp3 d) (frame-fills resp3 d))
     (body-fills resp3 (frameP resp3 d) (frame-fills resp3 d) 0 k)
-
-module _ (d k : ℕ) {s : List ℕ} {lim at : ℕ} {t₀ t₁ : List ℕ} {r : Walk} where
-  pub typed-attribute : k ≡ Attribute → Walks (attributeP resp3 (frameP resp3 d)) s lim at 1 0 t₀ t₁ r → Walks (typedP d k) s lim at 1 0 t₀ t₁ r
-  typed-attribute e w = rw (eq-eqb k Attribute e) w
-
-  pub typed-body : (k ≡ Attribute → ⊥) → Walks (bodyP resp3 (frameP resp3 d) 0 k) s lim at 1 0 t₀ t₁ r → Walks (typedP d k) s lim at 1 0 t₀ t₁ r
-  typed-body e w = rw (ne-eqb k Attribute e) w
 
 -- a leaf: its row, or the marker's refusal
 pub top-leaf : (c : Bool) (d k : ℕ) (s t₀ : List ℕ) (lim at : ℕ) (l : Leaf) {t₁ : List ℕ} {r : Walk} → k < Array → Reads (headP resp3 k) s at l → lim ≡ rowsIn (length t₀) → 0 < lim

@@ -2,16 +2,21 @@
 use mathlib.Core.Path.{_≡_}
 use mathlib.Core.List.{List}
 use mathlib.Core.Bool.{Bool, _&&_, _||_}
-use Prim.Native.Nat.{ℕ, _*_}
+use Prim.Native.Nat.{ℕ, _*_, _<_}
 use lib.Dec.{leb, eqb}
 use Rattle.meaning.specs.Choice.{pick}
 use Rattle.meaning.specs.Prog.{Prog, ret, refuse, run, Out, done}
 use Rattle.meaning.specs.Kinds.{resp3, SimpleString, SimpleError, Number, Double, Boolean, Null, BlobString, Verbatim, BigNumber, ChunkedString, EndStream, Array, Map, Attribute, Hello}
 use Rattle.meaning.specs.Frames.{Step, leaf, holder, textLineP, numberP, lengthP, bulkP, blankP, booleanP, doubleP, verbatimP, chunkP, helloP, headP}
-use Rattle.leaf.specs.Leaves.{outLeaf}
+use Rattle.leaf.specs.Leaves.{outLeaf, Reads}
+use Rattle.leaf.specs.declared.Leaf.{Leaf}
 use Rattle.leaf3.specs.Answers.{outGreeted, PlacesIn}
+use Rattle.walk.specs.Walks.{Placed}
+use Rattle.walk.specs.declared.Walk.{Walk}
 use Rattle.resp3.specs.declared.head.Head.{Head}
 use Rattle.resp3.specs.declared.head.Head.the-variants as Head
+use Rattle.resp3.specs.declared.head.Near.{Near}
+use Rattle.resp3.specs.declared.head.Near.the-variants as Near
 
 -- how many frames a count on the wire stands for: Maps and Attributes count pairs
 abbrev pub framesOf : ℕ → ℕ → ℕ
@@ -51,10 +56,6 @@ countedP k n = pick (leb Array k) (ret (holder k (framesOf k n))) (textP k n)
 abbrev pub numericP : ℕ → Prog Step
 numericP k = pick (eqb k Number) (numberP resp3) (lengthP resp3 k (countedP k))
 
--- the same, behind a line of digits worth v
-abbrev pub shortP : ℕ → ℕ → Prog Step
-shortP k v = pick (eqb k Number) (ret (leaf Number v 0 0)) (countedP k v)
-
 -- a Number, or a sized kind
 abbrev pub onDigits : ℕ → Bool
 onDigits k = eqb k Number || (leb BlobString k && leb k Verbatim) || eqb k ChunkedString || (leb Array k && leb k Attribute)
@@ -71,3 +72,17 @@ plainP k =
 -- what a kind asks for
 abbrev pub kindP : ℕ → Prog Step
 kindP k = pick (onDigits k) (numericP k) (pick (eqb k Hello) (helloP resp3) (plainP k))
+
+-- ---- near leaves
+
+-- a leaf of the kind, read; or what of the kind is known; or nothing
+abbrev pub Nears : ℕ → List ℕ → ℕ → Near → Type 0
+Nears k s at (Near.Leaf l) = (k < Array) × Reads (headP resp3 k) s at l
+Nears k s at Near.Line = (k < Array) × (headP resp3 k ≡ plainP k)
+Nears k s at Near.Far = Unit {0}
+
+-- r is what is said of the leaf that p gives at a place of s, and the table has its row
+pub record Rowed (p : Prog Step) (s : List ℕ) (at row : ℕ) (t₀ t₁ : List ℕ) (r : Walk) : Type 0 where
+  pub leaf : Leaf
+  pub reads : Reads p s at leaf
+  pub placed : Placed leaf row 0 t₀ t₁ r

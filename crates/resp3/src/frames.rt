@@ -1,20 +1,23 @@
 // A frame, the frames beneath a holder, and an attribute with its frame: they call one another, and the depth that is left falls.
 use crate::head::Head;
+use crate::head::Near;
 use text::Cursor;
 use text::Taken;
 use walk::Walk;
 ghost use mathlib.Core.Path.{_≡_};
 ghost use mathlib.Core.Bool.{_||_, not};
-ghost use Prim.Native.Nat.{_*_, _-_};
+ghost use Prim.Native.Nat.{_*_, _-_, _≤_};
 ghost use lib.Dec.{ltb};
+ghost use lib.ListN.{length};
 ghost use Rattle.meaning.specs.Choice.{pick};
 ghost use Rattle.meaning.specs.Kinds.{resp3, mayKey};
-ghost use Rattle.meaning.specs.Rows.{end};
+ghost use Rattle.meaning.specs.Rows.{end, mostRows};
 ghost use Rattle.meaning.specs.Frames.{holder, bodyP, restP, annotatedP, attributeP, frameP};
 ghost use Rattle.kinds.specs.Entries.{IsColumns};
 ghost use Rattle.walk.specs.Walks.{Walks, Start, Inside};
-ghost use Rattle.resp3.specs.Heads.{framesOf};
+ghost use Rattle.resp3.specs.Heads.{framesOf, plainP, Rowed};
 ghost use Rattle.resp3.specs.Keys.{inPairs, isJudged};
+ghost use Rattle.resp3.specs.Tops.{typedP};
 
 // Whether a holder counts pairs.
 pub fn in_pairs(k: u8) -> bool
@@ -47,6 +50,25 @@ fn key_fits(columns: &[[u8; 3]; 23], judged: bool, kind: u64) -> bool
     } else {
         true
     }
+}
+
+// The same answer, made again of its parts. What a call gives stands in memory: behind this the loop over frames has it in registers, as it has a near leaf's.
+fn anew(w: Walk) -> Walk
+    ensures { λ r. ⌜ r ≡ w ⌝ }
+{
+    match w {
+        Walk::To(p, r, kind) => Walk::To(p, r, kind),
+        Walk::Refused(e, p) => Walk::Refused(e, p),
+        Walk::Unfinished => Walk::Unfinished,
+    }
+}
+
+// A leaf that `plain_head` reads, and its row.
+fn line_row(s: &[u8], t: &mut [u64], k: u8, c: Cursor, row: usize) -> Walk
+    requires { ⌜ (c .at ≤ length (now s)) × (row ≤ mostRows) ⌝ }
+    ensures { λ r. ⌜ Rowed (plainP k) (now (s .entry)) (c .at) row (now (t .entry)) (now (t .exit)) r ⌝ }
+{
+    anew(walk::leaf_row(t, row, 0, crate::head::plain_head(s, k, c)))
 }
 
 // A holder's frames, and then its row, which is counted in `used`. `depth`: what is left for the frames; `n`: its count, of frames or pairs; `attribute`: word 5.
@@ -225,7 +247,28 @@ pub fn attribute(
     }
 }
 
-// A frame, with `depth` left. Called from one place, so that it is compiled into the loop over a holder's frames.
+// A frame of kind k, behind its type byte, or an attribute and its frame; its row is counted in `used`.
+fn far(
+    s: &[u8],
+    t: &mut [u64],
+    kinds: &[u8; 256],
+    columns: &[[u8; 3]; 23],
+    lim: usize,
+    k: u8,
+    c: Cursor,
+    used: usize,
+    depth: usize,
+) -> Walk
+    requires { ⌜ Inside resp3 (now s) (now kinds) lim (c .at) used × IsColumns (now columns) ⌝ }
+    ensures { λ r. ⌜ Walks (typedP depth k) (now (s .entry)) lim (c .at) used (used - 1) (now (t .entry)) (now (t .exit)) r ⌝ }
+{
+    if k == kinds::ATTRIBUTE {
+        return anew(attribute(s, t, kinds, columns, lim, c, used, depth));
+    }
+    anew(body(s, t, kinds, columns, lim, k, c, used, depth, 0))
+}
+
+// A frame, with `depth` left. Called from one place, so that it is compiled into the loop over a holder's frames, and near leaves with it. Each other call stands in a function of its own: what it needs in memory is there for that call alone.
 fn frame(
     s: &[u8],
     t: &mut [u64],
@@ -251,8 +294,9 @@ fn frame(
         return Walk::Unfinished;
     };
     let k = kinds::kind_at(kinds, b);
-    if k == kinds::ATTRIBUTE {
-        return attribute(s, t, kinds, columns, lim, next, used + 1, depth - 1);
+    match crate::head::near_leaf(s, k, next) {
+        Near::Leaf(l) => walk::leaf_row(t, used, 0, l),
+        Near::Line => line_row(s, t, k, next, used),
+        Near::Far => far(s, t, kinds, columns, lim, k, next, used + 1, depth - 1),
     }
-    body(s, t, kinds, columns, lim, k, next, used + 1, depth - 1, 0)
 }

@@ -5,13 +5,13 @@ use leaf3::Greeted;
 use text::Cursor;
 use text::number::Short;
 ghost use mathlib.Core.Path.{_≡_};
+ghost use mathlib.Core.Bool.{true};
 ghost use Prim.Native.Nat.{_≤_, _<_};
 ghost use lib.ListN.{length};
-ghost use Rattle.meaning.specs.Kinds.{resp3, Array};
+ghost use Rattle.meaning.specs.Kinds.{resp3, Number, BlobString, Array};
 ghost use Rattle.meaning.specs.Frames.{numberP, lengthP, headP};
-ghost use Rattle.text.specs.Numbers.{ShortAt};
-ghost use Rattle.leaf.specs.Leaves.{Reads};
-ghost use Rattle.resp3.specs.Heads.{Heads, Says, textP, countedP, numericP, shortP, plainP, onDigits};
+ghost use Rattle.leaf.specs.Leaves.{Reads, Counts};
+ghost use Rattle.resp3.specs.Heads.{Heads, Says, textP, countedP, numericP, plainP, onDigits, Nears};
 
 pub enum Head {
     Leaf(Leaf),
@@ -44,75 +44,34 @@ fn counted(s: &[u8], k: u8, n: u64, c: Cursor) -> Head
     Head::Leaf(text(s, k, n, c))
 }
 
-// A sized kind, behind its type byte: a length that is no short line.
-fn long_head(s: &[u8], k: u8, c: Cursor) -> Head
+// The length that a sized kind begins with.
+fn size_of(s: &[u8], k: u8, c: Cursor) -> Counted
+    requires { ⌜ c .at ≤ length (now s) ⌝ }
+    ensures { λ r. ⌜ Counts true k (now (s .entry)) (c .at) r ⌝ }
+{
+    leaf::length_head(s, true, k as u64, c)
+}
+
+// A sized kind, behind its type byte.
+fn sized_head(s: &[u8], k: u8, c: Cursor) -> Head
     requires { ⌜ c .at ≤ length (now s) ⌝ }
     ensures { λ r. ⌜ Says (lengthP resp3 k (countedP k)) k (now (s .entry)) (c .at) r ⌝ }
 {
-    match leaf::length_long(s, true, k as u64, c) {
+    match size_of(s, k, c) {
         Counted::Count(n, next) => counted(s, k, n, next),
         Counted::Not(l) => Head::Leaf(l),
     }
 }
 
-// A Number that is no short line. Behind a minus 18 digits are read as in `short_ahead`.
-fn long_number(s: &[u8], c: Cursor) -> Leaf
-    requires { ⌜ c .at ≤ length (now s) ⌝ }
-    ensures { λ r. ⌜ Reads (numberP resp3) (now (s .entry)) (c .at) r ⌝ }
-{
-    let at = c.at;
-    if s.len() - at < 21 {
-        return leaf::number_long(s, c);
-    }
-    if s[at] != b'-' {
-        return leaf::number_long(s, c);
-    }
-    match text::number::digits_line(s, Cursor { at: at + 1 }, 18) {
-        Short::Got(v, next) => {
-            Leaf::Row(
-                kinds::NUMBER as u64,
-                text::number::minus_word(v),
-                0,
-                0,
-                next,
-            )
-        }
-        Short::No => leaf::number_long(s, c),
-    }
-}
-
-// A Number or a sized kind, behind its type byte: no short line.
+// A Number or a sized kind, behind its type byte.
 fn numeric_head(s: &[u8], k: u8, c: Cursor) -> Head
     requires { ⌜ c .at ≤ length (now s) ⌝ }
     ensures { λ r. ⌜ Says (numericP k) k (now (s .entry)) (c .at) r ⌝ }
 {
     if k == kinds::NUMBER {
-        return Head::Leaf(long_number(s, c));
+        return Head::Leaf(leaf::number(s, c));
     }
-    long_head(s, k, c)
-}
-
-// The same, behind a short line that is worth v.
-fn short_head(s: &[u8], k: u8, v: u64, c: Cursor) -> Head
-    requires { ⌜ c .at ≤ length (now s) ⌝ }
-    ensures { λ r. ⌜ Says (shortP k v) k (now (s .entry)) (c .at) r ⌝ }
-{
-    if k == kinds::NUMBER {
-        return Head::Leaf(Leaf::Row(kinds::NUMBER as u64, v, 0, 0, c));
-    }
-    counted(s, k, v, c)
-}
-
-// A short line. Where 20 bytes are there, the 18 turns are straight code; called from one place, so that it is compiled into the walk's loop.
-fn short_ahead(s: &[u8], c: Cursor) -> Short
-    requires { ⌜ c .at ≤ length (now s) ⌝ }
-    ensures { λ r. ⌜ ShortAt (now (s .entry)) (c .at) r ⌝ }
-{
-    let at = c.at;
-    if s.len() - at < 20 {
-        return text::number::short_digits(s, c);
-    }
-    text::number::digits_line(s, c, 18)
+    sized_head(s, k, c)
 }
 
 // Whether a kind begins with a line of digits: a Number, and the sized kinds.
@@ -126,7 +85,7 @@ fn on_digits(k: u8) -> bool
 }
 
 // A kind of one line that is neither digits nor HELLO's, behind its type byte; any other is refused.
-fn plain_head(s: &[u8], k: u8, c: Cursor) -> Leaf
+pub fn plain_head(s: &[u8], k: u8, c: Cursor) -> Leaf
     requires { ⌜ c .at ≤ length (now s) ⌝ }
     ensures { λ r. ⌜ Reads (plainP k) (now (s .entry)) (c .at) r ⌝ }
 {
@@ -151,10 +110,7 @@ pub fn head_of(s: &[u8], k: u8, c: Cursor) -> Head
     ensures { λ r. ⌜ Heads k (now (s .entry)) (c .at) r ⌝ }
 {
     if on_digits(k) {
-        return match short_ahead(s, c) {
-            Short::Got(v, next) => short_head(s, k, v, next),
-            Short::No => numeric_head(s, k, c),
-        };
+        return numeric_head(s, k, c);
     }
     if k == kinds::HELLO {
         return Head::Hello(leaf3::hello(s, c));
@@ -167,7 +123,7 @@ fn sized(s: &[u8], k: u8, c: Cursor) -> Leaf
     requires { ⌜ c .at ≤ length (now s) ⌝ }
     ensures { λ r. ⌜ Reads (lengthP resp3 k (textP k)) (now (s .entry)) (c .at) r ⌝ }
 {
-    match leaf::length_head(s, true, k as u64, c) {
+    match size_of(s, k, c) {
         Counted::Count(n, next) => text(s, k, n, next),
         Counted::Not(l) => l,
     }
@@ -185,4 +141,75 @@ pub fn leaf_head(s: &[u8], k: u8, c: Cursor) -> Leaf
         return sized(s, k, c);
     }
     plain_head(s, k, c)
+}
+
+// ---- what the loop over a holder's frames reads itself
+
+pub enum Near {
+    // a leaf, read
+    Leaf(Leaf),
+    // a kind that `plain_head` reads
+    Line,
+    // any frame
+    Far,
+}
+
+// A Number of at most 18 digits, with a minus or not: straight code where 21 bytes are there.
+fn near_number(s: &[u8], c: Cursor) -> Near
+    requires { ⌜ c .at ≤ length (now s) ⌝ }
+    ensures { λ r. ⌜ Nears Number (now (s .entry)) (c .at) r ⌝ }
+{
+    let at = c.at;
+    if s.len() - at < 21 {
+        return Near::Far;
+    }
+    if s[at] == b'-' {
+        return match text::number::digits_line(s, Cursor { at: at + 1 }, 18) {
+            Short::Got(v, next) => {
+                Near::Leaf(Leaf::Row(
+                    kinds::NUMBER as u64,
+                    text::number::minus_word(v),
+                    0,
+                    0,
+                    next,
+                ))
+            }
+            Short::No => Near::Far,
+        };
+    }
+    match text::number::digits_line(s, c, 18) {
+        Short::Got(v, next) => Near::Leaf(Leaf::Row(kinds::NUMBER as u64, v, 0, 0, next)),
+        Short::No => Near::Far,
+    }
+}
+
+// A blob string whose length is a short line.
+fn near_blob(s: &[u8], c: Cursor) -> Near
+    requires { ⌜ c .at ≤ length (now s) ⌝ }
+    ensures { λ r. ⌜ Nears BlobString (now (s .entry)) (c .at) r ⌝ }
+{
+    match text::number::short_digits(s, c) {
+        Short::Got(n, next) => Near::Leaf(leaf::bulk(s, kinds::BLOB_STRING as u64, next, n)),
+        Short::No => Near::Far,
+    }
+}
+
+// A frame of kind k, behind its type byte.
+pub fn near_leaf(s: &[u8], k: u8, c: Cursor) -> Near
+    requires { ⌜ c .at ≤ length (now s) ⌝ }
+    ensures { λ r. ⌜ Nears k (now (s .entry)) (c .at) r ⌝ }
+{
+    if k == kinds::BLOB_STRING {
+        return near_blob(s, c);
+    }
+    if k == kinds::NUMBER {
+        return near_number(s, c);
+    }
+    if (k == kinds::SIMPLE_STRING) | (k == kinds::SIMPLE_ERROR) {
+        return Near::Leaf(leaf::text_line(s, k as u64, c));
+    }
+    if k <= kinds::NULL {
+        return Near::Line;
+    }
+    Near::Far
 }

@@ -1,5 +1,5 @@
 -- `resp3::walked` meets its contract: an attribute, or another kind.
-use Rattle.resp3.proofs.Tops.{typed-attribute, typed-body}
+use Rattle.resp3.proofs.Steps.{typed-attribute, typed-body}
 use borrow.Author.Needs.{needs}
 use Rattle.resp3.proofs.walked.Statement.{statement}
 use Rattle.resp3.proofs.walked.Tie as tie

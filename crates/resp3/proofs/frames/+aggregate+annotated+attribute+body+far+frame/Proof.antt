@@ -1,4 +1,4 @@
--- The RESP3 walk meets its contracts: a frame, its body, the frames beneath a holder, an attribute and the frame that it belongs to. The depth that is left falls from a frame to what it holds.
+-- The RESP3 walk meets its contracts: a frame, what of it is no near leaf, its body, the frames beneath a holder, an attribute and the frame that it belongs to. The depth that is left falls from a frame to what it holds.
 use mathlib.Core.Path.{_≡_, refl, sym, ap, subst, _∙_}
 use mathlib.Core.Bool.{Bool, _&&_, not}
 use Prim.Native.Nat.{ℕ, _+_, _-_, _*_, _<_}
@@ -6,66 +6,76 @@ use native.Mathlib.Omega.{arith}
 use borrow.Author.Needs.{needs}
 use borrow.Fn.Kinds.{In}
 use borrow.Fn.PlainCycle.{Measures, is, falls, and}
-use Rattle.meaning.specs.Prog.{run, Out, refused}
+use Rattle.meaning.specs.Prog.{Prog, run, Out, refused}
 use Rattle.meaning.specs.ProgLaws.{then}
 use Rattle.meaning.specs.Kinds.{resp3, kindOf, Attribute}
 use Rattle.meaning.specs.Rows.{nodeOf, end, item, frameKind}
-use Rattle.meaning.specs.Frames.{holder, bodyP, restP, attributeP, frameP}
+use Rattle.meaning.specs.Frames.{Step, holder, headP, bodyP, restP, frameP}
 use Rattle.rows.specs.Put.{putRow, rowOf}
 use Rattle.text.specs.declared.Cursor.{Cursor}
 use Rattle.text.proofs.Moves.{taken-to, taken-more}
-use Rattle.leaf.specs.Leaves.{outLeaf}
+use Rattle.leaf.specs.Leaves.{outLeaf, Reads}
 use Rattle.walk.specs.Walks.{walkOf, Wrote, Walks}
 use Rattle.walk.proofs.Said.{done-run, refused-run, unfinished-run, walks-refused, walks-unfinished, walks-to, walks-as}
 use Rattle.walk.proofs.Placing.{holder-words, leaf-walks}
 use Rattle.walk.proofs.Loop.{loop-refused, loop-unfinished, loop-marker, loop-end}
-use Rattle.resp3.specs.Heads.{Heads, framesOf}
+use Rattle.resp3.specs.Heads.{Heads, Nears, framesOf}
+use Rattle.resp3.specs.Tops.{typedP}
 use Rattle.resp3.proofs.Heads.{head-within}
 use Rattle.resp3.proofs.Keys.{Keyed, keyed-start, keyed-next, more-left, none-left, all-held}
-use Rattle.resp3.proofs.Steps.{frame-0, frame-no-room, frame-more, frame-attribute, frame-body, carry, second-full, second-more, second-twice, second-body, carried, dropped, under-refused, under-unfinished, first-refused, first-unfinished, attributed, to-within, body-head, held-refused, held-unfinished, held-all, held-none}
+use Rattle.resp3.proofs.Steps.{frame-0, frame-no-room, frame-more, frame-typed, frame-leaf, typed-attribute, typed-body, carry, second-full, second-more, second-twice, second-body, carried, dropped, under-refused, under-unfinished, first-refused, first-unfinished, attributed, to-within, body-head, held-refused, held-unfinished, held-all, held-none}
 use Rattle.resp3.proofs.frames.aggregate.Reads as aggregate
 use Rattle.resp3.proofs.frames.aggregate.Kinds as aggregate-kinds
-use Rattle.resp3.proofs.frames.+aggregate+annotated+attribute+body+frame.Lts-aggregate as aggregate-lts
+use Rattle.resp3.proofs.frames.+aggregate+annotated+attribute+body+far+frame.Lts-aggregate as aggregate-lts
 use Rattle.resp3.proofs.frames.annotated.Reads as annotated
 use Rattle.resp3.proofs.frames.annotated.Kinds as annotated-kinds
-use Rattle.resp3.proofs.frames.+aggregate+annotated+attribute+body+frame.Lts-annotated as annotated-lts
+use Rattle.resp3.proofs.frames.+aggregate+annotated+attribute+body+far+frame.Lts-annotated as annotated-lts
 use Rattle.resp3.proofs.frames.attribute.Reads as attribute
 use Rattle.resp3.proofs.frames.attribute.Kinds as attribute-kinds
-use Rattle.resp3.proofs.frames.+aggregate+annotated+attribute+body+frame.Lts-attribute as attribute-lts
+use Rattle.resp3.proofs.frames.+aggregate+annotated+attribute+body+far+frame.Lts-attribute as attribute-lts
 use Rattle.resp3.proofs.frames.body.Reads as body
 use Rattle.resp3.proofs.frames.body.Kinds as body-kinds
-use Rattle.resp3.proofs.frames.+aggregate+annotated+attribute+body+frame.Lts-body as body-lts
+use Rattle.resp3.proofs.frames.+aggregate+annotated+attribute+body+far+frame.Lts-body as body-lts
+use Rattle.resp3.proofs.frames.far.Reads as far
+use Rattle.resp3.proofs.frames.far.Kinds as far-kinds
+use Rattle.resp3.proofs.frames.+aggregate+annotated+attribute+body+far+frame.Lts-far as far-lts
 use Rattle.resp3.proofs.frames.frame.Reads as frame
 use Rattle.resp3.proofs.frames.frame.Kinds as frame-kinds
-use Rattle.resp3.proofs.frames.+aggregate+annotated+attribute+body+frame.Lts-frame as frame-lts
+use Rattle.resp3.proofs.frames.+aggregate+annotated+attribute+body+far+frame.Lts-frame as frame-lts
 use Rattle.kinds.proofs.kind_at.Reads as kind-at-reads
 use Rattle.kinds.proofs.may_carry.Reads as may-carry-reads
+use Rattle.resp3.proofs.frames.anew.Reads as anew-reads
 use Rattle.resp3.proofs.frames.in_pairs.Reads as in-pairs-reads
 use Rattle.resp3.proofs.frames.is_judged.Reads as is-judged-reads
 use Rattle.resp3.proofs.frames.key_fits.Reads as key-fits-reads
+use Rattle.resp3.proofs.frames.line_row.Reads as line-row-reads
 use Rattle.resp3.proofs.frames.more.Reads as more-reads
 use Rattle.resp3.proofs.greet.hello_rows.Reads as hello-rows-reads
 use Rattle.resp3.proofs.head.head_of.Reads as head-of-reads
+use Rattle.resp3.proofs.head.near_leaf.Reads as near-leaf-reads
 use Rattle.text.proofs.Cursor.byte.Reads as byte-reads
 use Rattle.walk.proofs.holder_row.Reads as holder-row-reads
 use Rattle.walk.proofs.leaf_row.Reads as leaf-row-reads
-use Rattle.resp3.proofs.frames.+aggregate+annotated+attribute+body+frame.{statement}
-use Rattle.resp3.proofs.frames.+aggregate+annotated+attribute+body+frame.Tie.{close}
+use Rattle.resp3.proofs.frames.+aggregate+annotated+attribute+body+far+frame.{statement}
+use Rattle.resp3.proofs.frames.+aggregate+annotated+attribute+body+far+frame.Tie.{close}
 
 abbrev μ-aggregate : Measures 4 aggregate-kinds.ps ℕ
-μ-aggregate κs a = 5 * (a .1 .1 .1 .1 .1 .1 .1 .1 .0) + 1
+μ-aggregate κs a = 6 * (a .1 .1 .1 .1 .1 .1 .1 .1 .0) + 1
 
 abbrev μ-annotated : Measures 4 annotated-kinds.ps ℕ
-μ-annotated κs a = 5 * (a .1 .1 .1 .1 .1 .1 .1 .0) + 3
+μ-annotated κs a = 6 * (a .1 .1 .1 .1 .1 .1 .1 .0) + 3
 
 abbrev μ-attribute : Measures 4 attribute-kinds.ps ℕ
-μ-attribute κs a = 5 * (a .1 .1 .1 .1 .1 .1 .1 .0) + 4
+μ-attribute κs a = 6 * (a .1 .1 .1 .1 .1 .1 .1 .0) + 4
 
 abbrev μ-body : Measures 4 body-kinds.ps ℕ
-μ-body κs a = 5 * (a .1 .1 .1 .1 .1 .1 .1 .1 .0) + 2
+μ-body κs a = 6 * (a .1 .1 .1 .1 .1 .1 .1 .1 .0) + 2
+
+abbrev μ-far : Measures 4 far-kinds.ps ℕ
+μ-far κs a = 6 * (a .1 .1 .1 .1 .1 .1 .1 .1 .0) + 5
 
 abbrev μ-frame : Measures 4 frame-kinds.ps ℕ
-μ-frame κs a = 5 * (a .1 .1 .1 .1 .1 .1 .1 .0) + 0
+μ-frame κs a = 6 * (a .1 .1 .1 .1 .1 .1 .1 .0) + 0
 
 abbrev aggregate-at : ℕ → In 4 aggregate-kinds.ps
 aggregate-at t = and 4 aggregate-kinds.ps (is 4 aggregate-kinds.ps μ-aggregate t) aggregate.Pre
@@ -93,6 +103,12 @@ body-at t = and 4 body-kinds.ps (is 4 body-kinds.ps μ-body t) body.Pre
 
 abbrev body-below : ℕ → In 4 body-kinds.ps
 body-below t = and 4 body-kinds.ps (falls 4 body-kinds.ps _<_ μ-body t) body.Pre
+
+abbrev far-at : ℕ → In 4 far-kinds.ps
+far-at t = and 4 far-kinds.ps (is 4 far-kinds.ps μ-far t) far.Pre
+
+abbrev far-below : ℕ → In 4 far-kinds.ps
+far-below t = and 4 far-kinds.ps (falls 4 far-kinds.ps _<_ μ-far t) far.Pre
 
 abbrev frame-at : ℕ → In 4 frame-kinds.ps
 frame-at t = and 4 frame-kinds.ps (is 4 frame-kinds.ps μ-frame t) frame.Pre
@@ -592,8 +608,51 @@ body-returns-3 t c =
     let headof = c .before .before .before .before .before .before .before .head-of in
     walks-as (body-head (frameP resp3 (e .args .depth)) (e .args .attribute) (e .args .k) (e .args .s .now) (e .args .lim) (e .args .c .at) (e .args .used) (subst (Heads (e .args .k) (e .args .s .now) (e .args .c .at)) (counted .given .1) (headof .ensures))) refl (aggregate′ .ensures)
 
+abbrev far-claims : ℕ → far-lts.Claims
+far-claims t = (attribute-below t, attribute.Post, anew-reads.Asked, anew-reads.Learnt, body-below t, body.Post)
+
+far-attribute-requires : (t : ℕ) → far-lts.Need-attribute-requires (far-claims t) (far-at t) far.Post
+far-attribute-requires t c κs =
+    let e = c .before .before .before .before in
+    (omega (arith, e .pre .0), e .pre .1)
+
+far-anew-requires : (t : ℕ) → far-lts.Need-anew-requires (far-claims t) (far-at t) far.Post
+far-anew-requires t c κs = search needs
+
+far-same-length : (t : ℕ) → far-lts.Need-same-length (far-claims t) (far-at t) far.Post
+far-same-length t c =
+    let attribute′ = c .before .before .before .attribute in
+    attribute′ .kept .1 .0
+
+far-returns : (t : ℕ) → far-lts.Need-returns (far-claims t) (far-at t) far.Post
+far-returns t c =
+    let e = c .before .before .before .before .before .before .before .before in
+    let attribute′ = c .before .before .before .attribute in
+    let if1 = c .before .before .before .before .before .if1 in
+    typed-attribute (e .args .depth) (e .args .k) (if1 .taken) (record { says = c .anew .ensures ∙ attribute′ .ensures .says; leaves = attribute′ .ensures .leaves })
+
+far-body-requires : (t : ℕ) → far-lts.Need-body-requires (far-claims t) (far-at t) far.Post
+far-body-requires t c κs =
+    let e = c .before .before .before .before in
+    (omega (arith, e .pre .0), e .pre .1)
+
+far-anew-requires-2 : (t : ℕ) → far-lts.Need-anew-requires-2 (far-claims t) (far-at t) far.Post
+far-anew-requires-2 t c κs = search needs
+
+far-same-length-2 : (t : ℕ) → far-lts.Need-same-length-2 (far-claims t) (far-at t) far.Post
+far-same-length-2 t c =
+    let body′ = c .before .before .before .body in
+    body′ .kept .1 .0
+
+far-returns-2 : (t : ℕ) → far-lts.Need-returns-2 (far-claims t) (far-at t) far.Post
+far-returns-2 t c =
+    let e = c .before .before .before .before .before .before .before .before in
+    let body′ = c .before .before .before .body in
+    let if1 = c .before .before .before .before .before .if1 in
+    typed-body (e .args .depth) (e .args .k) (if1 .left) (record { says = c .anew2 .ensures ∙ body′ .ensures .says; leaves = body′ .ensures .leaves })
+
 abbrev frame-claims : ℕ → frame-lts.Claims
-frame-claims t = (byte-reads.Asked, byte-reads.Learnt, kind-at-reads.Asked, kind-at-reads.Learnt, attribute-below t, attribute.Post, body-below t, body.Post)
+frame-claims t = (byte-reads.Asked, byte-reads.Learnt, kind-at-reads.Asked, kind-at-reads.Learnt, near-leaf-reads.Asked, near-leaf-reads.Learnt, leaf-row-reads.Asked, leaf-row-reads.Learnt, line-row-reads.Asked, line-row-reads.Learnt, far-below t, far.Post)
 
 frame-returns : (t : ℕ) → frame-lts.Need-returns (frame-claims t) (frame-at t) frame.Post
 frame-returns t c =
@@ -629,93 +688,128 @@ frame-returns-3 t c =
 frame-kind-at-requires : (t : ℕ) → frame-lts.Need-kind-at-requires (frame-claims t) (frame-at t) frame.Post
 frame-kind-at-requires t c κs = search needs
 
-frame-add-attribute : (t : ℕ) → frame-lts.Need-add-attribute (frame-claims t) (frame-at t) frame.Post
-frame-add-attribute t c =
-    let e = c .before .before .before .before .before .before .before .before .before .before .before in
-    let if2 = c .before .before .before .before .before .before .before .if2 in
+frame-near-leaf-requires : (t : ℕ) → frame-lts.Need-near-leaf-requires (frame-claims t) (frame-at t) frame.Post
+frame-near-leaf-requires t c κs =
+    let e = c .before .before .before .before .before .before .before .before .before in
+    let took = c .before .before .b in
+    let byte = c .before .before .before .before .byte in
+    let w = taken-to (e .args .s .now) (e .args .c .at) (took .given .0 .0) (took .given .0 .1 .0) (sym (took .given .1) ∙ byte .ensures) in
+    let p : took .given .0 .1 .0 .at ≡ e .args .c .at + 1 = ap (λ (x : Cursor). x .at) (w .to) in
+    omega (arith, w .there, p)
+
+frame-enum-known-l : (t : ℕ) → frame-lts.Need-enum-known-l (frame-claims t) (frame-at t) frame.Post
+frame-enum-known-l t c = search needs
+
+frame-leaf-row-requires : (t : ℕ) → frame-lts.Need-leaf-row-requires (frame-claims t) (frame-at t) frame.Post
+frame-leaf-row-requires t c κs =
+    let e = c .before .before .before .before .before .before .before .before .before .before .before .before .before .before in
+    let if2 = c .before .before .before .before .before .before .before .before .before .before .if2 in
     omega (arith, if2 .left, e .pre .1 .0 .few)
 
-frame-sub-attribute : (t : ℕ) → frame-lts.Need-sub-attribute (frame-claims t) (frame-at t) frame.Post
-frame-sub-attribute t c =
-    let if1 = c .before .before .before .before .before .before .before .before .if1 in
+frame-enum-told-2 : (t : ℕ) → frame-lts.Need-enum-told-2 (frame-claims t) (frame-at t) frame.Post
+frame-enum-told-2 t c = search needs
+
+frame-line-row-requires : (t : ℕ) → frame-lts.Need-line-row-requires (frame-claims t) (frame-at t) frame.Post
+frame-line-row-requires t c κs =
+    let e = c .before .before .before .before .before .before .before .before .before .before .before .before .before in
+    let took = c .before .before .before .before .before .before .b in
+    let byte = c .before .before .before .before .before .before .before .before .byte in
+    let if2 = c .before .before .before .before .before .before .before .before .before .if2 in
+    let w = taken-to (e .args .s .now) (e .args .c .at) (took .given .0 .0) (took .given .0 .1 .0) (sym (took .given .1) ∙ byte .ensures) in
+    let p : took .given .0 .1 .0 .at ≡ e .args .c .at + 1 = ap (λ (x : Cursor). x .at) (w .to) in
+    (omega (arith, w .there, p), omega (arith, if2 .left, e .pre .1 .0 .few))
+
+frame-enum-told-3 : (t : ℕ) → frame-lts.Need-enum-told-3 (frame-claims t) (frame-at t) frame.Post
+frame-enum-told-3 t c = search needs
+
+frame-add-far : (t : ℕ) → frame-lts.Need-add-far (frame-claims t) (frame-at t) frame.Post
+frame-add-far t c =
+    let e = c .before .before .before .before .before .before .before .before .before .before .before .before .before in
+    let if2 = c .before .before .before .before .before .before .before .before .before .if2 in
+    omega (arith, if2 .left, e .pre .1 .0 .few)
+
+frame-sub-far : (t : ℕ) → frame-lts.Need-sub-far (frame-claims t) (frame-at t) frame.Post
+frame-sub-far t c =
+    let if1 = c .before .before .before .before .before .before .before .before .before .before .if1 in
     omega (arith, if1 .left)
 
-frame-attribute-requires : (t : ℕ) → frame-lts.Need-attribute-requires (frame-claims t) (frame-at t) frame.Post
-frame-attribute-requires t c κs =
-    let e = c .before .before .before .before .before .before .before .before .before .before .before in
-    let took = c .before .before .before .before .b in
-    let byte = c .before .before .before .before .before .before .byte in
-    let if2 = c .before .before .before .before .before .before .before .if2 in
-    let if1 = c .before .before .before .before .before .before .before .before .if1 in
+frame-far-requires : (t : ℕ) → frame-lts.Need-far-requires (frame-claims t) (frame-at t) frame.Post
+frame-far-requires t c κs =
+    let e = c .before .before .before .before .before .before .before .before .before .before .before .before .before in
+    let took = c .before .before .before .before .before .before .b in
+    let byte = c .before .before .before .before .before .before .before .before .byte in
+    let if2 = c .before .before .before .before .before .before .before .before .before .if2 in
+    let if1 = c .before .before .before .before .before .before .before .before .before .before .if1 in
     let w = taken-to (e .args .s .now) (e .args .c .at) (took .given .0 .0) (took .given .0 .1 .0) (sym (took .given .1) ∙ byte .ensures) in
     let p : took .given .0 .1 .0 .at ≡ e .args .c .at + 1 = ap (λ (x : Cursor). x .at) (w .to) in
     (omega (arith, e .pre .0, if1 .left), (record { start = record { within = omega (arith, w .there, p); rows = omega (arith, if2 .left); few = e .pre .1 .0 .few; lent = e .pre .1 .0 .lent }; one = omega arith }, e .pre .1 .1))
 
 frame-same-length : (t : ℕ) → frame-lts.Need-same-length (frame-claims t) (frame-at t) frame.Post
 frame-same-length t c =
-    let attribute′ = c .before .before .attribute in
-    attribute′ .kept .1 .0
+    let leafrow = c .before .before .leaf-row in
+    leafrow .kept .0
 
 frame-returns-4 : (t : ℕ) → frame-lts.Need-returns-4 (frame-claims t) (frame-at t) frame.Post
 frame-returns-4 t c =
-    let e = c .before .before .before .before .before .before .before .before .before .before .before .before .before .before in
-    let attribute′ = c .before .before .attribute in
-    let if3 = c .before .before .before .before .if3 in
-    let kindat = c .before .before .before .before .before .kind-at in
-    let took = c .before .before .before .before .before .before .before .b in
-    let byte = c .before .before .before .before .before .before .before .before .before .byte in
-    let if2 = c .before .before .before .before .before .before .before .before .before .before .if2 in
-    let if1 = c .before .before .before .before .before .before .before .before .before .before .before .if1 in
+    let e = c .before .before .before .before .before .before .before .before .before .before .before .before .before .before .before .before .before in
+    let near = c .before .before .before .before .before .before .before .near-leaf in
+    let kindat = c .before .before .before .before .before .before .before .before .kind-at in
+    let took = c .before .before .before .before .before .before .before .before .before .before .b in
+    let byte = c .before .before .before .before .before .before .before .before .before .before .before .before .byte in
+    let if2 = c .before .before .before .before .before .before .before .before .before .before .before .before .before .if2 in
+    let if1 = c .before .before .before .before .before .before .before .before .before .before .before .before .before .before .if1 in
+    let leafrow = c .before .before .leaf-row in
+    let leafy = c .before .before .before .before .before .l in
     let w = taken-to (e .args .s .now) (e .args .c .at) (took .given .0 .0) (took .given .0 .1 .0) (sym (took .given .1) ∙ byte .ensures) in
     let p : took .given .0 .1 .0 .at ≡ e .args .c .at + 1 = ap (λ (x : Cursor). x .at) (w .to) in
-    let back : e .args .used + 1 - 1 ≡ e .args .used = omega arith in
-    walks-as (frame-attribute (e .args .s .now) (e .args .lim) (e .args .c .at) (e .args .used) (e .args .depth) (if1 .left) (if2 .left) (w .there) (kindat .ensures resp3 (e .pre .1 .0 .lent) ∙ ap (kindOf resp3) (w .byte)) (if3 .taken) ∙ ap (λ (x : ℕ). run (attributeP resp3 (frameP resp3 (e .args .depth - 1))) (e .args .s .now) (e .args .lim) x (e .args .used + 1)) (sym p)) back (attribute′ .ensures)
-
-frame-add-body : (t : ℕ) → frame-lts.Need-add-body (frame-claims t) (frame-at t) frame.Post
-frame-add-body t c =
-    let e = c .before .before .before .before .before .before .before .before .before .before .before in
-    let if2 = c .before .before .before .before .before .before .before .if2 in
-    omega (arith, if2 .left, e .pre .1 .0 .few)
-
-frame-sub-body : (t : ℕ) → frame-lts.Need-sub-body (frame-claims t) (frame-at t) frame.Post
-frame-sub-body t c =
-    let if1 = c .before .before .before .before .before .before .before .before .if1 in
-    omega (arith, if1 .left)
-
-frame-body-requires : (t : ℕ) → frame-lts.Need-body-requires (frame-claims t) (frame-at t) frame.Post
-frame-body-requires t c κs =
-    let e = c .before .before .before .before .before .before .before .before .before .before .before in
-    let took = c .before .before .before .before .b in
-    let byte = c .before .before .before .before .before .before .byte in
-    let if2 = c .before .before .before .before .before .before .before .if2 in
-    let if1 = c .before .before .before .before .before .before .before .before .if1 in
-    let w = taken-to (e .args .s .now) (e .args .c .at) (took .given .0 .0) (took .given .0 .1 .0) (sym (took .given .1) ∙ byte .ensures) in
-    let p : took .given .0 .1 .0 .at ≡ e .args .c .at + 1 = ap (λ (x : Cursor). x .at) (w .to) in
-    (omega (arith, e .pre .0, if1 .left), (record { start = record { within = omega (arith, w .there, p); rows = omega (arith, if2 .left); few = e .pre .1 .0 .few; lent = e .pre .1 .0 .lent }; one = omega arith }, e .pre .1 .1))
+    let reads = subst (Nears (kindat .result) (e .args .s .now) (took .given .0 .1 .0 .at)) (leafy .given .1) (near .ensures) in
+    leaf-walks (frameP resp3 (e .args .depth - 1)) 0 _ (frame-leaf (e .args .s .now) (e .args .lim) (e .args .c .at) (e .args .used) (e .args .depth) (if1 .left) (if2 .left) (w .there) (kindat .ensures resp3 (e .pre .1 .0 .lent) ∙ ap (kindOf resp3) (w .byte)) (reads .0) (subst (λ (x : ℕ). Reads (headP resp3 (kindat .result)) (e .args .s .now) x (leafy .given .0 .0)) p (reads .1))) (if2 .left) (e .pre .1 .0 .few) (leafrow .ensures)
 
 frame-same-length-2 : (t : ℕ) → frame-lts.Need-same-length-2 (frame-claims t) (frame-at t) frame.Post
 frame-same-length-2 t c =
-    let body′ = c .before .before .body in
-    body′ .kept .1 .0
+    let linerow = c .before .before .line-row in
+    linerow .kept .1 .0
 
 frame-returns-5 : (t : ℕ) → frame-lts.Need-returns-5 (frame-claims t) (frame-at t) frame.Post
 frame-returns-5 t c =
-    let e = c .before .before .before .before .before .before .before .before .before .before .before .before .before .before in
-    let body′ = c .before .before .body in
-    let if3 = c .before .before .before .before .if3 in
-    let kindat = c .before .before .before .before .before .kind-at in
-    let took = c .before .before .before .before .before .before .before .b in
-    let byte = c .before .before .before .before .before .before .before .before .before .byte in
-    let if2 = c .before .before .before .before .before .before .before .before .before .before .if2 in
-    let if1 = c .before .before .before .before .before .before .before .before .before .before .before .if1 in
+    let e = c .before .before .before .before .before .before .before .before .before .before .before .before .before .before .before .before in
+    let near = c .before .before .before .before .before .before .near-leaf in
+    let kindat = c .before .before .before .before .before .before .before .kind-at in
+    let took = c .before .before .before .before .before .before .before .before .before .b in
+    let byte = c .before .before .before .before .before .before .before .before .before .before .before .byte in
+    let if2 = c .before .before .before .before .before .before .before .before .before .before .before .before .if2 in
+    let if1 = c .before .before .before .before .before .before .before .before .before .before .before .before .before .if1 in
+    let linerow = c .before .before .line-row in
+    let told2 = c .before .before .before .before .enum-told2 in
+    let w = taken-to (e .args .s .now) (e .args .c .at) (took .given .0 .0) (took .given .0 .1 .0) (sym (took .given .1) ∙ byte .ensures) in
+    let p : took .given .0 .1 .0 .at ≡ e .args .c .at + 1 = ap (λ (x : Cursor). x .at) (w .to) in
+    let line = subst (Nears (kindat .result) (e .args .s .now) (took .given .0 .1 .0 .at)) (told2 .given .1) (near .ensures) in
+    let row = linerow .ensures in
+    let reads = subst (λ (q : Prog Step). Reads q (e .args .s .now) (took .given .0 .1 .0 .at) (row .leaf)) (sym (line .1)) (row .reads) in
+    leaf-walks (frameP resp3 (e .args .depth - 1)) 0 _ (frame-leaf (e .args .s .now) (e .args .lim) (e .args .c .at) (e .args .used) (e .args .depth) (if1 .left) (if2 .left) (w .there) (kindat .ensures resp3 (e .pre .1 .0 .lent) ∙ ap (kindOf resp3) (w .byte)) (line .0) (subst (λ (x : ℕ). Reads (headP resp3 (kindat .result)) (e .args .s .now) x (row .leaf)) p reads)) (if2 .left) (e .pre .1 .0 .few) (row .placed)
+
+frame-same-length-3 : (t : ℕ) → frame-lts.Need-same-length-3 (frame-claims t) (frame-at t) frame.Post
+frame-same-length-3 t c =
+    let far′ = c .before .before .far in
+    far′ .kept .1 .0
+
+frame-returns-6 : (t : ℕ) → frame-lts.Need-returns-6 (frame-claims t) (frame-at t) frame.Post
+frame-returns-6 t c =
+    let e = c .before .before .before .before .before .before .before .before .before .before .before .before .before .before .before .before in
+    let kindat = c .before .before .before .before .before .before .before .kind-at in
+    let took = c .before .before .before .before .before .before .before .before .before .b in
+    let byte = c .before .before .before .before .before .before .before .before .before .before .before .byte in
+    let if2 = c .before .before .before .before .before .before .before .before .before .before .before .before .if2 in
+    let if1 = c .before .before .before .before .before .before .before .before .before .before .before .before .before .if1 in
+    let far′ = c .before .before .far in
     let w = taken-to (e .args .s .now) (e .args .c .at) (took .given .0 .0) (took .given .0 .1 .0) (sym (took .given .1) ∙ byte .ensures) in
     let p : took .given .0 .1 .0 .at ≡ e .args .c .at + 1 = ap (λ (x : Cursor). x .at) (w .to) in
     let back : e .args .used + 1 - 1 ≡ e .args .used = omega arith in
-    walks-as (frame-body (e .args .s .now) (e .args .lim) (e .args .c .at) (e .args .used) (e .args .depth) (if1 .left) (if2 .left) (w .there) (kindat .ensures resp3 (e .pre .1 .0 .lent) ∙ ap (kindOf resp3) (w .byte)) (if3 .left) ∙ ap (λ (x : ℕ). run (bodyP resp3 (frameP resp3 (e .args .depth - 1)) 0 (kindat .result)) (e .args .s .now) (e .args .lim) x (e .args .used + 1)) (sym p)) back (body′ .ensures)
+    walks-as (frame-typed (e .args .s .now) (e .args .lim) (e .args .c .at) (e .args .used) (e .args .depth) (if1 .left) (if2 .left) (w .there) (kindat .ensures resp3 (e .pre .1 .0 .lent) ∙ ap (kindOf resp3) (w .byte)) ∙ ap (λ (x : ℕ). run (typedP (e .args .depth - 1) (kindat .result)) (e .args .s .now) (e .args .lim) x (e .args .used + 1)) (sym p)) back (far′ .ensures)
 
-pub +aggregate+annotated+attribute+body+frame-spec : {M : Type 1} → statement M
-+aggregate+annotated+attribute+body+frame-spec =
-    close μ-aggregate μ-annotated μ-attribute μ-body μ-frame (λ t. aggregate-lts.spec (aggregate-claims t)
+pub +aggregate+annotated+attribute+body+far+frame-spec : {M : Type 1} → statement M
++aggregate+annotated+attribute+body+far+frame-spec =
+    close μ-aggregate μ-annotated μ-attribute μ-body μ-far μ-frame (λ t. aggregate-lts.spec (aggregate-claims t)
     (aggregate-at t)
     aggregate.Post
     aggregate-Inv-loop
@@ -799,6 +893,17 @@ pub +aggregate+annotated+attribute+body+frame-spec : {M : Type 1} → statement 
     (body-returns-2 t)
     (body-same-length-3 t)
     (body-returns-3 t))
+    (λ t. far-lts.spec (far-claims t)
+    (far-at t)
+    far.Post
+    (far-attribute-requires t)
+    (far-anew-requires t)
+    (far-same-length t)
+    (far-returns t)
+    (far-body-requires t)
+    (far-anew-requires-2 t)
+    (far-same-length-2 t)
+    (far-returns-2 t))
     λ t. frame-lts.spec (frame-claims t)
     (frame-at t)
     frame.Post
@@ -809,13 +914,18 @@ pub +aggregate+annotated+attribute+body+frame-spec : {M : Type 1} → statement 
     (frame-enum-told t)
     (frame-returns-3 t)
     (frame-kind-at-requires t)
-    (frame-add-attribute t)
-    (frame-sub-attribute t)
-    (frame-attribute-requires t)
+    (frame-near-leaf-requires t)
+    (frame-enum-known-l t)
+    (frame-leaf-row-requires t)
+    (frame-enum-told-2 t)
+    (frame-line-row-requires t)
+    (frame-enum-told-3 t)
+    (frame-add-far t)
+    (frame-sub-far t)
+    (frame-far-requires t)
     (frame-same-length t)
     (frame-returns-4 t)
-    (frame-add-body t)
-    (frame-sub-body t)
-    (frame-body-requires t)
     (frame-same-length-2 t)
     (frame-returns-5 t)
+    (frame-same-length-3 t)
+    (frame-returns-6 t)
