@@ -4,19 +4,19 @@ use mathlib.Core.List.{List, _++_}
 use mathlib.Core.Bool.{Bool, true, false}
 use Prim.Native.Nat.{ℕ, _+_, _*_, _≤_}
 use native.Mathlib.Omega.{arith}
-use lib.ListN.{length, take, drop, getD, take-append-drop}
+use lib.ListN.{length, take, drop, getD, length-take}
 use lib.Dec.{leb, ltb}
-use lib.Seq.{sets, sets-eq, length-sets, length-take-le, take-append-seam, take-at}
+use lib.Seq.{getD-take, sets, sets-eq, length-sets, length-take-le, take-append-seam, take-at}
 use borrow.Author.Tests.{le-leb, leb-true, le-ltb}
 use Rattle.meaning.specs.Choice.{pick}
 use Rattle.meaning.specs.Kinds.{resp2}
-use Rattle.meaning.specs.Rows.{Forest, end, item, span, words, rowWidth, rowsIn}
+use Rattle.meaning.specs.Rows.{Forest, span, words, rowWidth, rowsIn}
 use Rattle.meaning.specs.RowsLaws.{length-words}
 use Rattle.meaning.specs.Frames.{depthLimit}
 use Rattle.meaning.specs.Tree.{Reading, unfit, got}
 use Rattle.meaning.specs.Decode.{Outcome, frame, marker, refusal, waiting}
 use Rattle.meaning.specs.DecodeLaws.{OfFrame, InBounds, frame-within}
-use Rattle.meaning.specs.TreeLaws.{nodeAt, frame-parts}
+use Rattle.meaning.specs.TreeLaws.{frame-parts}
 use Rattle.meaning.specs.Encode.{rowFits, childrenOf, topIn, present, encoded, encodingOf, sourceLimit, able, unable, encoding, Encoded, written, short, within, encode}
 use Rattle.meaning.specs.Trips.{Words64, Clean, Alike, placed, spelled}
 use Rattle.meaning.specs.TripLaws as Trip
@@ -69,17 +69,12 @@ of-bytes s t room n e = go (ltb sourceLimit (length s)) (topIn resp2 s t) e
 
 -- Row 0's span is how many rows its frame takes.
 pub frame-span : (s t : List ℕ) (f : Forest) → FrameOf s t f → getD t 4 0 ≡ span f
-unfolding topIn words span
+unfolding topIn span
 frame-span s t f (r, top) =
     let x = frame-parts (rowFits resp2 s) childrenOf depthLimit (present t) 0 top in
-    let row = nodeAt (present t) (rowWidth * 0) in
-    let rest : List ℕ = drop (rowWidth * rowsIn (length t)) t in
-    let is : t ≡ words (item row (x .beneath) end) ++ r ++ rest =
-    sym (take-append-drop (rowWidth * rowsIn (length t)) t) ∙ ap (λ (l : List ℕ). l ++ rest) (Trip.top-words s t f r top ∙ ap (λ (g : Forest). words g ++ r) (x .is))
-    in
     let rows : span f ≡ span (x .beneath) + 0 + 1 = ap span (x .is) in
-    let word : getD t 4 0 ≡ span (x .beneath) + 1 = ap (λ (l : List ℕ). getD l 4 0) is in
-    omega arith
+    let there : rowWidth ≤ rowWidth * rowsIn (length t) = omega (arith, x .there, length-take (rowWidth * rowsIn (length t)) t) in
+    omega (arith, x .spans, getD-take (rowWidth * rowsIn (length t)) t 4 0 (omega arith))
 
 -- ---- encode, then decode: an encode with the flag clear told n bytes ..
 

@@ -18,7 +18,7 @@ use mathlib.Core.Option.{none, some}
 use borrow.Author.Tests.{eqb-true, ne-eqb, le-leb, lt-ltb, le-ltb}
 use Rattle.meaning.specs.Choice.{pick}
 use Rattle.meaning.specs.Digits.{padded, zeros, digitsOf, negated, signedDigitsOf, signedWord, shown}
-use Rattle.meaning.specs.Text.{digitsFrom, digits, isDigit, plainLength, count, signed, Num, plus, minus}
+use Rattle.meaning.specs.Text.{digitsFrom, digits, isDigit, signed, Num, plus, minus}
 
 ten-pos : (k : ℕ) → 0 < 10 ^ k
 ten-pos k = one-le-pow k 10 (omega arith)
@@ -246,11 +246,6 @@ no-sign b c s n f e q =
     let none-some : none ≡ some n = rw (q, f) at e in
     let apart : _≡_ {A = ℕ} 0 1 = cc in
     omega arith
-
-pub read-plain : (s : List ℕ) (n : ℕ) → digits s ≡ some n → n < 2 ^ 64 → plainLength s ≡ some (count n)
-unfolding plainLength digits
-read-plain [] n e h = cc
-read-plain (c ∷ s) n e h = rw (ne-eqb c (code "+") (no-sign (code "+") c s n refl e), e, lt-ltb n (2 ^ 64) h)
 
 pub read-plus : (s : List ℕ) (n : ℕ) → digits s ≡ some n → n < 2 ^ 63 → signed s ≡ some (plus n)
 unfolding signed digits

@@ -1,6 +1,5 @@
 -- What heads and frames keep: a frame takes as many rows as its span says, whatever the decoder and the depth, and RESP2 makes no marker.
 use mathlib.Core.Path.{_≡_, refl, sym, ap, subst, _∙_}
-use mathlib.Core.List.{List, []}
 use mathlib.Core.Bool.{Bool, true, false, _||_, _&&_}
 use mathlib.Core.Option.{Option, none, some}
 use Prim.Native.Nat.{ℕ, zero, suc, _+_, _-_}

@@ -10,7 +10,7 @@ use lib.ListN.{length, take, getD}
 use lib.Dec.{ltb, eqb}
 use borrow.Author.Tests.{ne-eqb, eqb-false}
 use Rattle.meaning.specs.Choice.{pick}
-use Rattle.meaning.specs.Prog.{Prog, ret, refuse, bind}
+use Rattle.meaning.specs.Prog.{ret, refuse, bind}
 use Rattle.meaning.specs.ProgLaws.{Gives, gives-bind}
 use Rattle.meaning.specs.Text.{Length, count, digits, below64, plainLength}
 use Rattle.meaning.specs.Kinds.{Profile, kindOf, mayKey, mayCarry, Attribute}

@@ -1,6 +1,6 @@
 -- How joined frames' rows stand: one after the other.
 use mathlib.Core.Path.{_≡_, refl, ap}
-use mathlib.Core.List.{[], _++_, append-assoc}
+use mathlib.Core.List.{_++_, append-assoc}
 use Prim.Native.Nat.{_+_, _*_}
 use native.Mathlib.Omega.{arith}
 use lib.ListN.{length, length-append}

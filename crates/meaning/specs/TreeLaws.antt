@@ -19,7 +19,7 @@ use Rattle.meaning.specs.Tree.{Reading, unfit, got, andThen, framesIn, i
 abbrev pub after : Forest → Reading → Reading
 after f o = andThen o (λ g q. got (join f g) q)
 
-pub unread : {f : Forest} {r : List ℕ} → unfit ≡ got f r → ⊥
+unread : {f : Forest} {r : List ℕ} → unfit ≡ got f r → ⊥
 unread e = let z : _≡_ {A = ℕ} 0 1 = cc in omega arith
 
 -- what holds of the frames read and of the words after them
@@ -63,11 +63,11 @@ unfolding framesIn span
 frames-whole p whole zero ws = record { rest = refl; there = omega arith }
 frames-whole p whole (suc n) ws = took-first ws (framesIn n p) (frames-whole p whole n) (p ws) (whole ws)
 
-pub frames-none : (p : List ℕ → Reading) (ws : List ℕ) → framesIn 0 p ws ≡ got end ws
+frames-none : (p : List ℕ → Reading) (ws : List ℕ) → framesIn 0 p ws ≡ got end ws
 unfolding framesIn
 frames-none p ws = refl
 
-pub frames-more : (n : ℕ) (p : List ℕ → Reading) (ws : List ℕ) → framesIn (suc n) p ws ≡ andThen (p ws) (λ f r. after f (framesIn n p r))
+frames-more : (n : ℕ) (p : List ℕ → Reading) (ws : List ℕ) → framesIn (suc n) p ws ≡ andThen (p ws) (λ f r. after f (framesIn n p r))
 unfolding framesIn
 frames-more n p ws = refl
 
@@ -170,7 +170,7 @@ module _ (fits : Node → Bool) (kids : Node → ℕ) where
   frame-deep ws = refl
 
   -- no whole row
-  pub frame-none : (d : ℕ) (ws : List ℕ) → length ws < rowWidth → frameIn fits kids d ws ≡ unfit
+  frame-none : (d : ℕ) (ws : List ℕ) → length ws < rowWidth → frameIn fits kids d ws ≡ unfit
   unfolding frameIn
   frame-none zero ws h = refl
   frame-none (suc d) [] h = refl

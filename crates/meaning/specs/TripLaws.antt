@@ -12,7 +12,7 @@ use lib.IntN.{pos, negsuc}
 use lib.ListN.{length, take, drop, getD, take-append-drop, drop-of-length-le, length-append, length-take, length-drop}
 use lib.Seq.{drop-cons, drop-drop, take-all, take-take, take-at, drop-append-seam, take-append-seam, take-append-add}
 use lib.Dec.{ltb, leb, eqb}
-use borrow.Author.Tests.{eqb-true, eq-eqb, ne-eqb, le-leb, leb-true, leb-false, ltb-true, ltb-false, le-ltb}
+use borrow.Author.Tests.{eqb-true, ne-eqb, le-leb, leb-true, leb-false, ltb-true, ltb-false, le-ltb}
 use Rattle.meaning.specs.Choice.{pick}
 use Rattle.meaning.specs.Demand.{CR, LF, bytes, line, up, lineLen, serves}
 use Rattle.meaning.specs.DemandLaws.{some-inj, none≢some}
@@ -21,7 +21,7 @@ use Rattle.meaning.specs.ProgLaws.{then, Gives, gives-run, When, weighs-
 use Rattle.meaning.specs.Text.{codes, same, isDigit, digitsFrom, digits, Num, plus, minus, plusOf, minusOf, signed, Length, count, minusOne}
 use Rattle.meaning.specs.Kinds.{Profile, resp2, kindOf, lookup, typeByte, byteIn, hasChildren, SimpleString, SimpleError, Number, Null, BlobString, Array, Marker}
 use Rattle.meaning.specs.Rows.{Node, nodeOf, Forest, end, item, join, frameKind, span, words, rowWidth, mostRows, rowsIn}
-use Rattle.meaning.specs.RowsLaws.{span-join, words-join, length-words}
+use Rattle.meaning.specs.RowsLaws.{span-join, length-words}
 use Rattle.meaning.specs.Frames.{Step, leaf, holder, lineP, textLineP, numberP, numbered, sized, lengthFor, lengthP, bulkP, holderP, headP, framesP, restP, typeP, frameP, depthLimit}
 use Rattle.meaning.specs.Decode.{frame, marker, outcomeOf, decode}
 use Rattle.meaning.specs.FramesLaws.{frame-fills, frame-no-marker}
@@ -535,12 +535,9 @@ top-of : (s t : List ℕ) (f : Forest) (r : List ℕ) → topIn resp2 s t ≡ go
 unfolding topIn
 top-of s t f r e = frame-of (rowFits resp2 s) childrenOf depthLimit (present t) f r e
 
-pub top-words : (s t : List ℕ) (f : Forest) (r : List ℕ) → topIn resp2 s t ≡ got f r → present t ≡ words f ++ r
-top-words s t f r e = top-of s t f r e .1
-
 pub top-span : (s t : List ℕ) (f : Forest) (r : List ℕ) → topIn resp2 s t ≡ got f r → span f ≤ mostRows
 top-span s t f r e =
-    let whole : length (present t) ≡ length (words f) + length r = ap length (top-words s t f r e) ∙ length-append (words f) r in
+    let whole : length (present t) ≡ length (words f) + length r = ap length (top-of s t f r e .1) ∙ length-append (words f) r in
     let rows : length (present t) ≤ rowWidth * mostRows = simp length-take (omega arith) in
     omega (arith, length-words f)
 
