@@ -5,14 +5,14 @@ use mathlib.Core.Bool.{Bool, true, false}
 use Prim.Native.Nat.{ℕ, _+_, _≤_, _<_}
 use native.Mathlib.Omega.{arith}
 use lib.ListN.{length, getD}
-use lib.Dec.{ltb, eqb}
+use lib.Dec.{eqb}
 use borrow.Author.Tests.{eq-eqb, ne-eqb, lt-ltb, le-ltb}
 use Rattle.meaning.specs.Choice.{pick}
 use Rattle.meaning.specs.Prog.{Prog, ret, refuse, run, Out}
 use Rattle.meaning.specs.ProgLaws.{Bounded, bounded}
-use Rattle.meaning.specs.Kinds.{Profile, resp2, kindOf, SimpleString, SimpleError, Number, BlobString, Array}
+use Rattle.meaning.specs.Kinds.{Profile, resp2, kindOf, Number, BlobString, Array}
 use Rattle.meaning.specs.KindsLaws.{kind2-elim}
-use Rattle.meaning.specs.Frames.{Step, leaf, holder, textLineP, numberP, lengthP, bulkP, holderP, headP, typeP}
+use Rattle.meaning.specs.Frames.{Step, leaf, textLineP, numberP, lengthP, bulkP, headP, typeP}
 use Rattle.meaning.specs.RunLaws.{type-there, type-short}
 use Rattle.text.specs.Numbers.{ShortLine}
 use Rattle.text.specs.declared.Cursor.{Cursor}
@@ -21,7 +21,7 @@ use Rattle.leaf.specs.declared.Leaf.{Leaf}
 use Rattle.leaf.specs.declared.Leaf.the-variants as Leaf
 use Rattle.leaf.specs.declared.Counted.the-variants as Counted
 use Rattle.leaf.proofs.Leaves.{short-number, short-count}
-use Rattle.resp2.specs.Heads.{Heads, ofLeaf, outHead, countedP, numericP, shortP, kindP, leafP}
+use Rattle.resp2.specs.Heads.{Heads, ofLeaf, outHead, countedP, numericP, shortP, kindP}
 use Rattle.resp2.specs.declared.head.Head.{Head}
 use Rattle.resp2.specs.declared.head.Head.the-variants as Head
 
@@ -106,11 +106,6 @@ module _ (b : ℕ) where
   pub by-kind : headP resp2 (kindOf resp2 b) ≡ kindP (kindOf resp2 b)
   unfolding headP
   by-kind = kind2-elim (λ k. headP resp2 k ≡ kindP k) refl refl refl refl refl refl b
-
-  -- all but an array
-  pub by-leaf : (kindOf resp2 b ≡ Array → ⊥) → headP resp2 (kindOf resp2 b) ≡ leafP (kindOf resp2 b)
-  unfolding headP
-  by-leaf = kind2-elim (λ k. (k ≡ Array → ⊥) → headP resp2 k ≡ leafP k) (λ h. refl) (λ h. refl) (λ h. refl) (λ h. refl) (λ h. refl) (λ h. absurd (h refl)) b
 
 module _ (s : List ℕ) (at : ℕ) where
   pub no-byte : length s ≤ at → Heads (typeP resp2 (headP resp2)) s at Head.Unfinished

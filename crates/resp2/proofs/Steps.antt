@@ -1,25 +1,20 @@
 -- A frame of RESP2: its run by its head's answer.
-use mathlib.Core.Path.{_≡_, refl, sym, ap, subst, _∙_}
+use mathlib.Core.Path.{_≡_, sym, ap, _∙_}
 use mathlib.Core.List.{List}
-use mathlib.Core.Bool.{true}
 use Prim.Native.Nat.{ℕ, suc, _+_, _-_, _≤_, _<_}
 use native.Mathlib.Omega.{arith}
-use lib.ListN.{length}
-use Rattle.meaning.specs.Choice.{pick}
-use Rattle.meaning.specs.Prog.{Prog, run, Out, done, refused, unfinished}
-use Rattle.meaning.specs.ProgLaws.{then, When, gives-run}
+use Rattle.meaning.specs.Prog.{run, Out, done, refused, unfinished}
+use Rattle.meaning.specs.ProgLaws.{then, gives-run}
 use Rattle.meaning.specs.Kinds.{resp2, Array, Marker}
 use Rattle.meaning.specs.Rows.{nodeOf, Forest, end, item, frameKind}
 use Rattle.meaning.specs.Frames.{Step, holder, headP, typeP, framesP, restP, frameP}
 use Rattle.meaning.specs.FramesLaws.{frame-no-marker}
 use Rattle.meaning.specs.RunLaws.{holder-run, over, array-holds, frame-deep, frame-full, frame-run}
-use Rattle.walk.specs.Walks.{walkOf, Walks}
+use Rattle.walk.specs.Walks.{Walks}
 use Rattle.walk.specs.declared.Walk.{Walk}
 use Rattle.walk.specs.declared.Walk.the-variants as Walk
 use Rattle.text.specs.declared.Cursor.{Cursor}
 use Rattle.walk.proofs.Said.{done-run}
-use Rattle.leaf.specs.Leaves.{outLeaf}
-use Rattle.leaf.specs.declared.Leaf.{Leaf}
 use Rattle.resp2.specs.Heads.{Heads, outHead}
 use Rattle.resp2.specs.declared.head.Head.{Head}
 use Rattle.resp2.specs.declared.head.Head.the-variants as Head

@@ -1,5 +1,5 @@
 -- The top frame of RESP2: by its kind, and the whole call.
-use mathlib.Core.Path.{_≡_, refl, sym, ap, subst, _∙_}
+use mathlib.Core.Path.{_≡_, refl, sym, ap, _∙_}
 use mathlib.Core.List.{List}
 use mathlib.Core.Bool.{false}
 use Prim.Native.Nat.{ℕ, suc, _+_, _-_, _≤_, _<_}
@@ -8,7 +8,7 @@ use lib.ListN.{length, getD}
 use lib.Dec.{eqb}
 use borrow.Author.Tests.{eq-eqb, ne-eqb}
 use Rattle.meaning.specs.Choice.{pick}
-use Rattle.meaning.specs.Prog.{Prog, bind, run, Out, refused, unfinished}
+use Rattle.meaning.specs.Prog.{Prog, run, Out, refused, unfinished}
 use Rattle.meaning.specs.ProgLaws.{then, run-bind, gives-run}
 use Rattle.meaning.specs.Kinds.{resp2, kindOf, Array, Marker}
 use Rattle.meaning.specs.KindsLaws.{kind2-elim}
@@ -16,12 +16,12 @@ use Rattle.meaning.specs.Rows.{Forest, frameKind, rowsIn}
 use Rattle.meaning.specs.Frames.{Step, holderP, headP, typeP, restP, frameP, decodeP}
 use Rattle.meaning.specs.FramesLaws.{frame-no-marker}
 use Rattle.meaning.specs.RunLaws.{type-there, type-short, frame-run, unmarked-run}
-use Rattle.leaf.specs.Leaves.{outLeaf, Reads, Counts}
+use Rattle.leaf.specs.Leaves.{Reads, Counts}
 use Rattle.leaf.specs.declared.Leaf.{Leaf}
 use Rattle.leaf.specs.declared.Counted.the-variants as Counted
 use Rattle.text.specs.declared.Cursor.{Cursor}
-use Rattle.walk.specs.Walks.{walkOf, Placed}
-use Rattle.walk.specs.Tops.{rowsAfter, Laid}
+use Rattle.walk.specs.Walks.{Placed}
+use Rattle.walk.specs.Tops.{Laid}
 use Rattle.walk.specs.declared.Walk.{Walk}
 use Rattle.walk.specs.declared.Walk.the-variants as Walk
 use Rattle.walk.proofs.Top.{laid, leaf-laid}

@@ -7,7 +7,7 @@ use text::number::Short;
 ghost use mathlib.Core.Path.{_≡_};
 ghost use Prim.Native.Nat.{_≤_};
 ghost use lib.ListN.{length};
-ghost use Rattle.meaning.specs.Kinds.{resp2, BlobString, Array};
+ghost use Rattle.meaning.specs.Kinds.{resp2, BlobString};
 ghost use Rattle.meaning.specs.Frames.{numberP, lengthP, bulkP, headP, typeP};
 ghost use Rattle.kinds.specs.Entries.{IsKinds};
 ghost use Rattle.text.specs.Numbers.{ShortAt};

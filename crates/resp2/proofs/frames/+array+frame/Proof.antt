@@ -8,7 +8,7 @@ use borrow.Fn.PlainCycle.{Measures, is, falls, and}
 use Rattle.meaning.specs.Prog.{run}
 use Rattle.meaning.specs.Kinds.{resp2, Array}
 use Rattle.meaning.specs.Rows.{nodeOf, end, item, frameKind}
-use Rattle.meaning.specs.Frames.{frameP, restP, holder, typeP, headP}
+use Rattle.meaning.specs.Frames.{frameP, typeP, headP}
 use Rattle.meaning.specs.FramesLaws.{frame-fills}
 use Rattle.walk.specs.Walks.{Walks}
 use Rattle.walk.proofs.Said.{refused-run, unfinished-run, walks-refused, walks-unfinished, walks-to, walks-as}

@@ -1,6 +1,5 @@
 -- `resp2::head::head_at` meets its contract: the byte that was taken, and the head of its kind.
 use mathlib.Core.Path.{sym, ap, subst, _∙_}
-use Prim.Native.Nat.{ℕ}
 use native.Mathlib.Omega.{arith}
 use Rattle.meaning.specs.Kinds.{resp2, kindOf}
 use Rattle.text.specs.declared.Cursor.{Cursor}

@@ -1,6 +1,5 @@
 -- `resp2::head::kind_head` meets its contract, by the kind.
 use mathlib.Core.Path.{subst}
-use native.Mathlib.Omega.{arith}
 use Rattle.text.specs.Numbers.{ShortAt}
 use Rattle.leaf.specs.Leaves.{count-within}
 use Rattle.leaf.proofs.Leaves.{short-count}

@@ -1,5 +1,5 @@
 -- `resp2::head::long_number` meets its contract: a minus and a short line, or the line of any length.
-use mathlib.Core.Path.{_≡_, sym, subst}
+use mathlib.Core.Path.{sym, subst}
 use Prim.Native.Nat.{ℕ, _+_}
 use native.Mathlib.Omega.{arith}
 use Rattle.meaning.specs.Kinds.{resp2, Number}
