@@ -25,10 +25,6 @@ one-columns xs ys p q = ext-getD [] xs ys (p .size ∙ sym (q .size)) (λ k h. r
         ext-getD 0 (getD xs k []) (getD ys k []) (p .width k l ∙ sym (q .width k l))
         (λ c h. let m : c < 3 = omega (arith, p .width k l) in p .at k c l m ∙ sym (q .at k c l m))
 
--- of every promise that is an equation: a kind, a column, a yes or no
-pub one-answer : {A : Type 0} {a x y : A} → x ≡ a → y ≡ a → x ≡ y
-one-answer p q = p ∙ sym q
-
 -- ---- yes or no
 
 is-yes : (b : Bool) → eqb (yes b) 1 ≡ b

@@ -54,10 +54,6 @@ same-leaf Unfinished Unfinished h = refl
 pub one-leaf : (p : Prog Step) (s : List ℕ) (at : ℕ) (r q : Leaf) → Reads p s at r → Reads p s at q → r ≡ q
 one-leaf p s at r q a b = same-leaf r q (sym (a .means 0 0) ∙ b .means 0 0)
 
--- The cursor behind a leaf lies in the buffer.
-pub row-within : (p : Prog Step) (s : List ℕ) (at k a b c : ℕ) (next : Cursor) → at ≤ length s → Reads p s at (Row k a b c next) → next .at ≤ length s
-row-within p s at k a b c next h w = subst (Bounded s 0 at 0) (w .means 0 0) (bounded p s 0 at 0 h (omega arith)) .to
-
 -- ---- lengths
 
 -- -1 is a marker of the kind in RESP3, and Null in RESP2

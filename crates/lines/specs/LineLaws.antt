@@ -31,7 +31,7 @@ module _ (s : List ℕ) (flag : Bool) (h : Node) where
 
 -- ---- lengths
 
-pub text-length : (s : List ℕ) (h : Node) → rowFits resp2 s h ≡ true → hasText (h .kind) ≡ true → length (textIn s h) ≡ h .w2 - h .w1
+text-length : (s : List ℕ) (h : Node) → rowFits resp2 s h ≡ true → hasText (h .kind) ≡ true → length (textIn s h) ≡ h .w2 - h .w1
 text-length s h f t =
     omega (arith, text-lies s h f t, length-take (h .w2 - h .w1) (drop (h .w1) s), length-drop (h .w1) s)
 

@@ -1,18 +1,17 @@
 -- What a line's answer is to the meaning's programs, for the decoders' proofs.
 use mathlib.Core.Path.{_≡_, refl, ap, _∙_}
 use mathlib.Core.List.{List}
-use mathlib.Core.Bool.{Bool}
 use mathlib.Core.Option.{Option, none, some}
-use Prim.Native.Nat.{ℕ, _+_, _-_, _≤_}
+use Prim.Native.Nat.{ℕ, _+_, _-_}
 use native.Mathlib.Omega.{arith}
-use lib.ListN.{length, take, drop, length-drop}
+use lib.ListN.{length, take, drop}
 use Rattle.meaning.specs.Demand.{line, lineLen, serves}
 use Rattle.meaning.specs.Prog.{Prog, Out, done, refused, unfinished, run, served}
 use Rattle.meaning.specs.Text.{Num, plus, minus, signed, Length, count, minusOne}
 use Rattle.meaning.specs.Kinds.{Profile, Number}
 use Rattle.meaning.specs.Frames.{Step, leaf, lineP, numbered, numberP, takesPlain, absent, sized, lengthFor, lengthP}
 use Rattle.text.specs.Moves.{ruledOf}
-use Rattle.text.specs.Numbers.{lengthAs, wordAs, lengthText, lengthSaid, lengthLineOf, lengthLine, numberSaid, numberLineOf, numberLine}
+use Rattle.text.specs.Numbers.{lengthAs, wordAs, lengthSaid, lengthLineOf, lengthLine, numberSaid, numberLineOf, numberLine}
 use Rattle.text.specs.declared.Cursor.{Cursor}
 use Rattle.text.specs.declared.Ruled.{Ruled}
 use Rattle.text.specs.declared.Ruled.the-variants as Ruled
@@ -20,7 +19,7 @@ use Rattle.text.specs.declared.number.LengthLine.{LengthLine}
 use Rattle.text.specs.declared.number.LengthLine.the-variants as LengthLine
 use Rattle.text.specs.declared.number.NumberLine.{NumberLine}
 use Rattle.text.specs.declared.number.NumberLine.the-variants as NumberLine
-use Rattle.text.proofs.Lines.{line-size, line-text}
+use Rattle.text.proofs.Lines.{line-text}
 
 -- ---- any line: what follows is run behind it, with its text
 
@@ -90,25 +89,3 @@ module _ (s : List ℕ) (lim at used : ℕ) where
       go (some n) =
           let z : at + n - 2 - at ≡ n - 2 = omega arith in
           rw z (numbered-run (signed (take (n - 2) (drop at s))) (record { at = at + n }))
-
--- ---- a length's line ends in the buffer
-
--- the place after the line, and `at` where more must come
-abbrev pub lengthEnd : ℕ → LengthLine → ℕ
-lengthEnd at (LengthLine.Count n c) = c .at
-lengthEnd at (LengthLine.MinusOne c) = c .at
-lengthEnd at (LengthLine.Refused j m) = m
-lengthEnd at LengthLine.More = at
-
-module _ (s : List ℕ) (at : ℕ) (h : at ≤ length s) where
-  pub length-within : (plain three : Bool) → lengthEnd at (lengthLine plain three s at) ≤ length s
-  length-within plain three = go (lineLen (drop at s)) refl
-    where
-      ends : (x : Option Length) (c : Cursor) → lengthEnd at (lengthSaid c (lengthAs x)) ≡ c .at
-      ends none c = refl
-      ends (some (count n)) c = refl
-      ends (some minusOne) c = refl
-
-      go : (o : Option ℕ) → lineLen (drop at s) ≡ o → lengthEnd at (lengthLineOf plain three (drop at s) at o) ≤ length s
-      go none e = h
-      go (some n) e = rw (ends (lengthText plain three (take (n - 2) (drop at s))) (record { at = at + n })) (omega (arith, length-drop at s, line-size (drop at s) n e .1))

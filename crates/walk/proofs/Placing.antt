@@ -5,10 +5,10 @@ use Prim.Native.Nat.{ℕ, _+_, _-_, _*_, _≤_, _<_}
 use native.Mathlib.Omega.{arith}
 use lib.ListN.{length}
 use lib.Seq.{sets, length-sets}
-use Rattle.meaning.specs.Prog.{Prog, run, Out}
+use Rattle.meaning.specs.Prog.{Prog, run}
 use Rattle.meaning.specs.ProgLaws.{then}
 use Rattle.meaning.specs.Rows.{Node, nodeOf, Forest, end, item, frameKind, span, words, rowWidth, mostRows}
-use Rattle.meaning.specs.Frames.{Step, restP}
+use Rattle.meaning.specs.Frames.{restP}
 use Rattle.meaning.specs.RunLaws.{leaf-run}
 use Rattle.rows.specs.Put.{putRow, rowOf, rowWords}
 use Rattle.rows.specs.RowLaws.{put-there, sets-before}

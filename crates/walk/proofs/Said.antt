@@ -8,7 +8,7 @@ use lib.Seq.{sets}
 use Rattle.meaning.specs.Prog.{Prog, run, Out, done, refused, unfinished}
 use Rattle.meaning.specs.Rows.{Forest, frameKind, words, rowWidth}
 use Rattle.text.specs.declared.Cursor.{Cursor}
-use Rattle.walk.specs.Walks.{walkOf, Wrote, Walks}
+use Rattle.walk.specs.Walks.{walkOf, Walks}
 use Rattle.walk.specs.declared.Walk.{Walk}
 use Rattle.walk.specs.declared.Walk.the-variants as Walk
 

@@ -2,7 +2,7 @@
 use mathlib.Core.Path.{_≡_, refl, sym, ap, subst, _∙_}
 use mathlib.Core.List.{List, [], _∷_, _++_}
 use mathlib.Core.Bool.{Bool, true, false}
-use Prim.Native.Nat.{ℕ, suc, _+_, _-_, _*_, _≤_, _<_}
+use Prim.Native.Nat.{ℕ, suc, _+_, _-_, _≤_, _<_}
 use native.Mathlib.Omega.{arith}
 use lib.Dec.{eqb}
 use lib.ListN.{length, take, drop, set, length-set, take-append-drop}
@@ -11,7 +11,7 @@ use Rattle.meaning.specs.Choice.{pick}
 use Rattle.meaning.specs.Prog.{Prog, run, Out, done, refused, unfinished}
 use Rattle.meaning.specs.ProgLaws.{then, NotFull, Bounded, bounded, roomier, Weighs, weighs-run}
 use Rattle.meaning.specs.Kinds.{Profile, Marker}
-use Rattle.meaning.specs.Rows.{nodeOf, Forest, end, item, frameKind, span, words, rowWidth, rowsIn}
+use Rattle.meaning.specs.Rows.{nodeOf, Forest, end, item, frameKind, span, words, rowsIn}
 use Rattle.meaning.specs.RowsLaws.{length-words}
 use Rattle.meaning.specs.Frames.{restP, decodeP}
 use Rattle.meaning.specs.Decode.{frame, marker, outcomeOf, decode}

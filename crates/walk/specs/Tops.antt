@@ -8,8 +8,7 @@ use Rattle.meaning.specs.Prog.{Out, done, refused, unfinished}
 use Rattle.meaning.specs.Kinds.{Profile}
 use Rattle.meaning.specs.Rows.{Forest, words, rowsIn}
 use Rattle.kinds.specs.Entries.{IsKinds}
-use Rattle.answers.specs.declared.Answer.{Answer}
-use Rattle.walk.specs.Walks.{walkOf, answerAs}
+use Rattle.walk.specs.Walks.{walkOf}
 use Rattle.walk.specs.declared.Walk.{Walk}
 use Rattle.walk.specs.declared.Walk.the-variants.{To, Refused, Unfinished}
 
@@ -28,11 +27,6 @@ rowsAfter t unfinished = t
 -- the rows of an outcome in the table, and what a walk says of it
 pub record Laid (o : Out Forest) (t₀ t₁ : List ℕ) (r : Walk) : Type 0 where
   pub says : r ≡ walkOf o
-  pub leaves : t₁ ≡ rowsAfter t₀ o
-
--- the same, and the answer of a call that began at a place
-pub record Filled (o : Out Forest) (at : ℕ) (t₀ t₁ : List ℕ) (r : Answer) : Type 0 where
-  pub says : r ≡ answerAs at (walkOf o)
   pub leaves : t₁ ≡ rowsAfter t₀ o
 
 -- ---- a holder of a few frames, walked once in few rows

@@ -1,5 +1,5 @@
 -- `walk::answer` meets its contract: in each arm the walk's answer is the arm's own.
-use mathlib.Core.Path.{_≡_, sym, ap, subst, _∙_}
+use mathlib.Core.Path.{sym, ap, subst, _∙_}
 use borrow.Author.Needs.{needs}
 use borrow.Author.Tests.{eq-eqb, ne-eqb}
 use Rattle.walk.specs.Walks.{Behind, answerAs}
