@@ -107,7 +107,9 @@ impl Function {
         loop {
             let Some((at, bytes)) = to_do.pop() else {
                 // behind a jump by a table: what nothing else leads to
-                let Some(at) = self.code.keys().copied().find(|a| !have.contains_key(a) && self.meant(*a)) else { break };
+                let Some(at) = self.code.keys().copied().find(|a| !have.contains_key(a) && self.meant(*a)) else {
+                    break;
+                };
                 let (1, Some(bytes)) = (tables.len(), tables.first()) else { self.wrong(at, "nothing leads here") };
                 to_do.push((at, *bytes));
                 continue;
@@ -166,7 +168,11 @@ impl Function {
                     bytes
                 }
                 "ud2" | "hlt" => continue,
-                _ if sets_pointer || op == "leave" || op == "enter" || op.starts_with("xchg") && rest.contains("%rsp") => {
+                _ if sets_pointer
+                    || op == "leave"
+                    || op == "enter"
+                    || op.starts_with("xchg") && rest.contains("%rsp") =>
+                {
                     self.wrong(at, "what it does to the stack is not known")
                 }
                 _ => bytes,
@@ -193,7 +199,9 @@ struct Bounds<'a> {
 
 impl Bounds<'_> {
     fn get(&self, place: &Place) -> &Function {
-        self.functions.get(place).unwrap_or_else(|| fail(format!("calls {}+{:x}, which is no function here", place.0, place.1)))
+        self.functions
+            .get(place)
+            .unwrap_or_else(|| fail(format!("calls {}+{:x}, which is no function here", place.0, place.1)))
     }
 
     /// Every function that this one's calls lead to.
@@ -267,7 +275,8 @@ fn main() -> ExitCode {
     for (place, f) in &mut functions {
         f.follow(place);
     }
-    let enough = words.get(2).and_then(|w| w.parse().ok()).unwrap_or_else(|| fail("no number of bytes that are enough".into()));
+    let enough =
+        words.get(2).and_then(|w| w.parse().ok()).unwrap_or_else(|| fail("no number of bytes that are enough".into()));
     let measured = file(1);
     let mut lines = measured.lines();
     let inputs: Vec<&str> = lines.next().unwrap_or("").split('|').collect();
@@ -284,7 +293,11 @@ fn main() -> ExitCode {
     for (name, place) in &exports {
         let bound = bounds.of(place);
         let took = &measured[name.as_str()];
-        let most: usize = took.iter().filter_map(|t| t.parse().ok()).max().unwrap_or_else(|| fail(format!("{name} was not measured")));
+        let most: usize = took
+            .iter()
+            .filter_map(|t| t.parse().ok())
+            .max()
+            .unwrap_or_else(|| fail(format!("{name} was not measured")));
         good &= most <= bound && bound <= enough;
         let shown: Vec<&str> = took.iter().map(|t| if *t == "-" { "–" } else { t }).collect();
         println!("| `{name}` | {} | {bound} | {:.2} |", shown.join(" | "), most as f64 / bound as f64);
@@ -302,5 +315,9 @@ fn main() -> ExitCode {
     if !good {
         println!("\nA call took more than its bound, or can take more than the {enough} bytes that the header says.");
     }
-    if good { ExitCode::SUCCESS } else { ExitCode::FAILURE }
+    if good {
+        ExitCode::SUCCESS
+    } else {
+        ExitCode::FAILURE
+    }
 }

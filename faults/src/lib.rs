@@ -6,7 +6,7 @@ use compare::ours;
 use compare::rig::Rig;
 use compare::show::show;
 use compare::theirs::Protocol;
-use imrazgul::{resp2_decode, resp2_encode, resp2_length};
+use imrazgul::{i64_digits, resp2_decode, resp2_encode, resp2_length, u64_digits};
 use std::cell::RefCell;
 
 /// Enough for every frame of the seeds that fits into an input.
@@ -37,6 +37,7 @@ const EDGES: [u64; 12] = [0, 1, 2, 3, 6, 7, 13, 1 << 32, 1 << 63, u64::MAX, u64:
 
 impl Judge {
     fn input(&mut self, buf: &[u8]) {
+        digits(buf);
         for i in 0..self.rigs.len() {
             let rig = &mut self.rigs[i];
             let said = rig.check(buf);
@@ -80,6 +81,17 @@ impl Judge {
             };
             self.hold(buf, &table, n % 2 == 1);
         }
+    }
+}
+
+/// The first eight bytes as a number, printed.
+fn digits(buf: &[u8]) {
+    let Some(eight) = buf.first_chunk() else { return };
+    let n = u64::from_le_bytes(*eight);
+    let (plain, unused) = u64_digits(n);
+    let (signed, left) = i64_digits(n as i64);
+    if plain[unused..] != *n.to_string().as_bytes() || signed[left..] != *(n as i64).to_string().as_bytes() {
+        differ(buf, &format!("the digits of {n}: {plain:?}, {signed:?}"));
     }
 }
 
