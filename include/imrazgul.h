@@ -1,13 +1,15 @@
 /* The calls of the RESP2 and RESP3 decoders, the RESP2 encoder and the digits that `rt staticlib imrazgul` builds into
  * libimrazgul.a.
  *
- * What is asked of the caller. A slice is passed as a pointer and a length. A pointer with length 0 is not read through
- * and may be null; any other points to as many elements as the length says. A table is aligned to 8 bytes. What one call
- * is lent must not overlap, unless both parts are only read. Nothing else is asked: every input has an answer.
+ * What is asked of the caller. A slice is passed as a pointer and a length. A pointer with length 0 is not read
+ * through and may be null; any other points to as many elements as the length says. A table is aligned to 8 bytes.
+ * What one call is lent must not overlap, unless both parts are only read. Nothing else is asked: every input has an
+ * answer.
  *
  * What a call takes. It keeps no state, allocates nothing and calls nothing, so any number of threads may be in calls
- * at once, each with parts that no other writes. IMRAZGUL_STACK bytes of stack are enough for each of them; a RESP2
- * decode, an encode and the length take at most half of that.
+ * at once, if no other thread meanwhile uses what a call may write, and none writes what it reads. "As it was" is said
+ * of a call's end: a decode may write rows on its way and put back what stood there. IMRAZGUL_STACK bytes of stack are
+ * enough for each call; a RESP2 decode, an encode and the length take at most half of that.
  *
  * The table is lent as 64-bit words, IMRAZGUL_ROW_WORDS to a row, at most IMRAZGUL_MOST_ROWS rows; words that make no
  * whole row, or stand behind the last of those rows, are not used. Rows stand in wire order: a parent before its
@@ -141,9 +143,9 @@ struct imrazgul_decoded imrazgul_resp3_decode(const uint8_t *src, size_t src_len
 /* The same, and a marker at the top is answered with IMRAZGUL_MARKER. */
 struct imrazgul_decoded imrazgul_resp3_stream(const uint8_t *src, size_t src_len, uint64_t *table, size_t words);
 
-/* The three from a place in src on, so that the frames of a pipeline are decoded one after another: consumed is counted
- * from the place, offsets in the rows from the front of src. Bytes before the place are not looked at; a place behind the
- * end is like the end. */
+/* The three from a place in src on, so that the frames of a pipeline are decoded one after another: consumed is
+ * counted from the place, offsets in the rows from the front of src. Bytes before the place are not looked at; a place
+ * behind the end is like the end. */
 struct imrazgul_decoded imrazgul_resp2_decode_at(const uint8_t *src, size_t src_len, size_t at, uint64_t *table,
                                                  size_t words);
 struct imrazgul_decoded imrazgul_resp3_decode_at(const uint8_t *src, size_t src_len, size_t at, uint64_t *table,
