@@ -7,13 +7,17 @@ use leaf::Counted;
 use text::Cursor;
 use text::Taken;
 use walk::Walk;
-ghost use Prim.Native.Nat.{_+_, _<_};
+ghost use mathlib.Core.Path.{_≡_};
+ghost use Prim.Native.Nat.{_≤_};
+ghost use lib.ListN.{length};
+ghost use lib.Seq.{paste};
 ghost use Rattle.meaning.specs.Prog.{run};
-ghost use Rattle.meaning.specs.Kinds.{resp2};
-ghost use Rattle.meaning.specs.Frames.{depthLimit};
+ghost use Rattle.meaning.specs.Kinds.{resp2, Array};
+ghost use Rattle.meaning.specs.Frames.{depthLimit, holder, restP, frameP};
+ghost use Rattle.kinds.specs.Entries.{IsKinds};
 ghost use Rattle.answers.specs.Answers.{Decoded};
 ghost use Rattle.walk.specs.Tops.{Ready, Laid, Tried};
-ghost use Rattle.resp2.specs.Tops.{arrayOut, topP, Small};
+ghost use Rattle.resp2.specs.Tops.{arrayOut, topP, Apart};
 
 // A walk without a table says whether the array is there; only then is t written.
 fn twice(
@@ -35,35 +39,46 @@ fn twice(
     }
 }
 
-// A few frames, in a row for each: one walk, over the first rows, which are put back unless the array is there.
-fn once(s: &[u8], t: &mut [u64], kinds: &[u8; 256], c: Cursor, depth: usize, n: u64) -> Walk
-    requires { ⌜ Small n (now s) (now kinds) (now t) (c .at) ⌝ }
-    ensures { λ r. ⌜ Laid (arrayOut depth n (now (s .entry)) (n + 1) (c .at)) (now (t .entry)) (now (t .exit)) r ⌝ }
+// How many rows an array of arrays is tried in.
+const NESTED: usize = 32;
+
+// The first n words of `own`, in front of t.
+fn lay(t: &mut [u64], own: &[u64], n: usize)
+    requires { ⌜ (n ≤ length (now t)) × (n ≤ length (now own)) ⌝ }
+    ensures { λ _. ⌜ now (t .exit) ≡ paste (now (t .entry)) 0 (now (own .entry)) n ⌝ }
 {
-    let saved = rows::front(t);
-    match frames::array(
-        s,
-        &mut t[..rows::SAVED],
-        kinds,
-        n as usize + 1,
-        c,
-        1,
-        depth,
-        n,
-    ) {
-        Walk::To(p, u, k) => Walk::To(p, u, k),
-        Walk::Refused(k, p) => {
-            rows::put_back(t, &saved);
-            Walk::Refused(k, p)
-        }
-        Walk::Unfinished => {
-            rows::put_back(t, &saved);
-            Walk::Unfinished
-        }
+    let mut i: usize = 0;
+    while i < n {
+        t[i] = own[i];
+        i = i + 1;
     }
 }
 
-// An array that looks like a command, with few frames and no array at their front, walked once. An 11 is no answer: t is as it was, and it is to be walked twice.
+// One walk, over rows that are not the table's, `most` of them; t is written when the array is there.
+fn once(
+    s: &[u8],
+    t: &mut [u64],
+    own: &mut [u64],
+    kinds: &[u8; 256],
+    most: usize,
+    c: Cursor,
+    depth: usize,
+    n: u64,
+) -> Walk
+    requires { ⌜ Apart most (now s) (now kinds) (now own) (now t) (c .at) ⌝ }
+    ensures { λ r. ⌜ Laid (arrayOut depth n (now (s .entry)) most (c .at)) (now (t .entry)) (now (t .exit)) r ⌝ }
+{
+    match frames::array(s, own, kinds, most, c, 1, depth, n) {
+        Walk::To(p, u, k) => {
+            lay(t, own, rows::WIDTH * u);
+            Walk::To(p, u, k)
+        }
+        Walk::Refused(k, p) => Walk::Refused(k, p),
+        Walk::Unfinished => Walk::Unfinished,
+    }
+}
+
+// An array of few frames, walked once: in a row for each, or, with an array at their front, in so many that most will do. An 11 is no answer: t is as it was, and it is to be walked twice.
 fn few(
     s: &[u8],
     t: &mut [u64],
@@ -78,11 +93,15 @@ fn few(
 {
     let at = c.at;
     if n < rows::FEW as u64 {
-        if rows::FEW <= lim {
-            if at < s.len() {
-                if s[at] != b'*' {
-                    return once(s, t, kinds, c, depth, n);
+        if at < s.len() {
+            if s[at] == b'*' {
+                if NESTED <= lim {
+                    let mut own = [0u64; NESTED * rows::WIDTH];
+                    return once(s, t, &mut own, kinds, NESTED, c, depth, n);
                 }
+            } else if rows::FEW <= lim {
+                let mut own = [0u64; rows::SAVED];
+                return once(s, t, &mut own, kinds, n as usize + 1, c, depth, n);
             }
         }
     }
