@@ -1,4 +1,5 @@
 // The lines of one frame.
+use crate::marks;
 use crate::out;
 use crate::out::Place;
 use rows::Row;
@@ -165,12 +166,29 @@ fn line(
 ) -> Place
     requires { ⌜ p .at ≤ 65536 ⌝ }
     requires { ⌜ depth ≤ 32 ⌝ }
+    requires { ⌜ place ≤ length (now s) ⌝ }
     ensures { λ r. ⌜ r .at ≤ 65536 ⌝ }
 {
     let q = margin(out, p, offset_of(base, place, r), depth);
     let q = out::kind(out, q, r.kind);
     let q = value(out, q, s, r);
+    let q = marks::marks(out, q, s, place, line_to(s, place), kind_of(r), r);
     out::say(out, q, b"\n")
+}
+
+// Where the text of the line at `place` ends.
+fn line_to(s: &[u8], place: usize) -> usize
+    requires { ⌜ place ≤ length (now s) ⌝ }
+    ensures { λ r. ⌜ r ≤ length (now (s .entry)) ⌝ }
+{
+    let n = s.len();
+    let Found::Next(next) = text::scan::line_end(s, place) else {
+        return n;
+    };
+    if next < 2 {
+        return n;
+    }
+    if next - 2 <= n { next - 2 } else { n }
 }
 
 // The offset in the input that a row is shown with: where its frame begins, or a field's text. No offset comes near 2^64: the

@@ -4,6 +4,7 @@ use crate::capture::Moved;
 use crate::capture::Protocol;
 use crate::out;
 use crate::out::Place;
+use crate::progress;
 use crate::stop;
 ghost use mathlib.Core.Path.{_≡_};
 ghost use Prim.Native.Nat.{_+_, _-_, _<_, _≤_};
@@ -92,7 +93,8 @@ fn keep(buf: &mut [u8], from: usize, to: usize)
     }
 }
 
-// Why no more is read, after the frames of a window: so many bytes are left of it, and its front may be refused.
+// Why no more is read, after the frames of a window: by whether output was lost, the refusal of its front or 0, and whether
+// that front fills it.
 fn end_of(fd: i32, lost: bool, refusal: u64, full: bool) -> End {
     if lost {
         return End::Failed;
@@ -187,6 +189,7 @@ fn ended(run: Run, name: &[u8], failed: bool) -> Run
     }
 }
 
+// Reads and shows, window by window. size is what the line of progress speaks of, 0 where there is none.
 fn windows(
     protocol: Protocol,
     fd: i32,
@@ -195,6 +198,7 @@ fn windows(
     t: &mut [u64],
     out: &mut [u8; 65536],
     tally: &mut [u64; 46],
+    size: u64,
 ) -> Run
     ensures { λ r. ⌜ (r .place .at ≤ 65536) × (r .have ≤ length (now (buf .exit))) × (r .have ≤ r .seen) ⌝ }
 {
@@ -207,13 +211,17 @@ fn windows(
     while run.seen < MOST {
         let got = read(fd, buf, run.have);
         if got.bytes == 0 {
+            progress::clear(size);
             return ended(run, name, got.failed);
         }
+        progress::make_way(size);
         run = window(protocol, fd, buf, t, out, tally, run, got.bytes);
         let end = run.end;
         if !is_going(end) {
+            progress::clear(size);
             return run;
         }
+        progress::draw(out, run.seen, size);
     }
     run
 }
@@ -224,7 +232,17 @@ pub(crate) fn show(protocol: Protocol, summary: bool, fd: i32, name: &[u8]) -> u
     let mut t = table();
     let mut out = io::large_buffer();
     let mut tally = [0u64; 46];
-    let run = windows(protocol, fd, name, &mut buf, &mut t, &mut out, &mut tally);
+    let size = progress::size_of(fd);
+    let run = windows(
+        protocol,
+        fd,
+        name,
+        &mut buf,
+        &mut t,
+        &mut out,
+        &mut tally,
+        size,
+    );
     let have = run.have;
     stop::finish(
         protocol,

@@ -1,16 +1,19 @@
-// Shows the frames of a capture: of a file, or of standard input. `HELP` says how it is called.
+// Shows the frames of a capture: of a file, or of standard input. `help` says how it is called.
 //
 // Each frame has a line, in wire order: the offset of its type byte from the front of the input, its kind, and its text or
 // value; children stand two columns further in. An attribute has its lines before those of its frame, at the same depth, and
 // the fields of a Hello have the offsets of their texts. A streamed value has a line where it begins, and its parts are shown
-// as they come. The last line says how many frames and bytes there were. Messages go to standard error.
+// as they come. What RESP would not allow is marked behind the line. The last line says how many frames and bytes there were.
+// Messages go to standard error.
 //
 // A Rattle program has no exit status of its own: it writes the status to descriptor 3, and whoever starts it reads it there.
 mod args;
 mod capture;
 mod frame;
 mod input;
+mod marks;
 mod out;
+mod progress;
 mod stop;
 mod tally;
 

@@ -7,10 +7,10 @@ use Rattle.show.proofs.input.windows.Statement.{statement}
 use Rattle.show.proofs.input.windows.Tie as tie
 
 abbrev Inv-loop : tie.InvT-loop
-Inv-loop protocol fd name buf₀ t₀ out₀ tally₀ run₀ buf t out tally run = (run .place .at ≤ 65536) × (run .have ≤ length buf) × (run .have ≤ run .seen) × (length buf ≡ length buf₀) × (length t ≡ length t₀)
+Inv-loop protocol fd name buf₀ t₀ out₀ tally₀ size run₀ buf t out tally run = (run .place .at ≤ 65536) × (run .have ≤ length buf) × (run .have ≤ run .seen) × (length buf ≡ length buf₀) × (length t ≡ length t₀)
 
 abbrev μ-loop : tie.MeasureT-loop
-μ-loop protocol fd name buf₀ t₀ out₀ tally₀ run₀ buf t out tally run = 9223372036854775807 - run .seen
+μ-loop protocol fd name buf₀ t₀ out₀ tally₀ size run₀ buf t out tally run = 9223372036854775807 - run .seen
 
 start-requires : tie.Need-start-requires Inv-loop μ-loop
 start-requires c κs = search needs
@@ -20,6 +20,9 @@ loop-holds c = search needs
 
 read-requires : tie.Need-read-requires Inv-loop μ-loop
 read-requires c κs = search needs
+
+clear-requires : tie.Need-clear-requires Inv-loop μ-loop
+clear-requires c κs = search needs
 
 ended-requires : tie.Need-ended-requires Inv-loop μ-loop
 ended-requires c κs = search needs
@@ -33,11 +36,17 @@ same-length-2 c = search needs
 returns : tie.Need-returns Inv-loop μ-loop
 returns c = search needs
 
+make-way-requires : tie.Need-make-way-requires Inv-loop μ-loop
+make-way-requires c κs = search needs
+
 window-requires : tie.Need-window-requires Inv-loop μ-loop
 window-requires c κs = search needs
 
 is-going-requires : tie.Need-is-going-requires Inv-loop μ-loop
 is-going-requires c κs = search needs
+
+clear-requires-2 : tie.Need-clear-requires-2 Inv-loop μ-loop
+clear-requires-2 c κs = search needs
 
 same-length-3 : tie.Need-same-length-3 Inv-loop μ-loop
 same-length-3 c = search needs
@@ -47,6 +56,9 @@ same-length-4 c = search needs
 
 returns-2 : tie.Need-returns-2 Inv-loop μ-loop
 returns-2 c = search needs
+
+draw-requires : tie.Need-draw-requires Inv-loop μ-loop
+draw-requires c κs = search needs
 
 loop-less : tie.Need-loop-less Inv-loop μ-loop
 loop-less c = search needs
@@ -72,15 +84,19 @@ windows-spec =
     start-requires
     loop-holds
     read-requires
+    clear-requires
     ended-requires
     same-length
     same-length-2
     returns
+    make-way-requires
     window-requires
     is-going-requires
+    clear-requires-2
     same-length-3
     same-length-4
     returns-2
+    draw-requires
     loop-less
     loop-again
     same-length-5
