@@ -199,9 +199,7 @@ struct Bounds<'a> {
 
 impl Bounds<'_> {
     fn get(&self, place: &Place) -> &Function {
-        self.functions
-            .get(place)
-            .unwrap_or_else(|| fail(format!("calls {}+{:x}, which is no function here", place.0, place.1)))
+        &self.functions[place]
     }
 
     /// Every function that this one's calls lead to.
@@ -274,6 +272,11 @@ fn main() -> ExitCode {
     let (mut functions, exports) = read(&file(0));
     for (place, f) in &mut functions {
         f.follow(place);
+    }
+    for f in functions.values() {
+        if let Some(to) = f.calls.keys().find(|to| !functions.contains_key(to)) {
+            fail(format!("{} calls {}, which the library does not have: what that takes is not known", f.name, to.0));
+        }
     }
     let enough =
         words.get(2).and_then(|w| w.parse().ok()).unwrap_or_else(|| fail("no number of bytes that are enough".into()));
