@@ -152,7 +152,7 @@ abbrev pub nodeAt : List ℕ → ℕ → Node
 nodeAt t i = nodeOf (getD t i 0) (getD t (i + 1) 0) (getD t (i + 2) 0) (getD t (i + 3) 0) (getD t (i + 5) 0)
 
 -- the words of a row, and those after it
-row-words : (t : List ℕ) (row : ℕ) → rowWidth * row + rowWidth ≤ length t
+pub row-words : (t : List ℕ) (row : ℕ) → rowWidth * row + rowWidth ≤ length t
     → drop (rowWidth * row) t
     ≡ getD t (rowWidth * row) 0 ∷ getD t (rowWidth * row + 1) 0 ∷ getD t (rowWidth * row + 2) 0 ∷ getD t (rowWidth * row + 3) 0 ∷ getD t (rowWidth * row + 4) 0 ∷ getD t (rowWidth * row + 5) 0
     ∷ drop (rowWidth * (row + 1)) t

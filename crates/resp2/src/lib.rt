@@ -8,10 +8,11 @@ use text::Cursor;
 use text::Taken;
 use walk::Walk;
 ghost use mathlib.Core.Path.{_≡_};
-ghost use Prim.Native.Nat.{_≤_};
+ghost use Prim.Native.Nat.{_*_, _≤_};
 ghost use lib.ListN.{length};
 ghost use lib.Seq.{paste};
 ghost use Rattle.meaning.specs.Prog.{run};
+ghost use Rattle.meaning.specs.Rows.{rowWidth, mostRows};
 ghost use Rattle.meaning.specs.Kinds.{resp2, Array};
 ghost use Rattle.meaning.specs.Frames.{depthLimit, holder, restP, frameP};
 ghost use Rattle.kinds.specs.Entries.{IsKinds};
@@ -42,15 +43,18 @@ fn twice(
 // How many rows an array of arrays is tried in.
 const NESTED: usize = 32;
 
-// The first n words of `own`, in front of t.
-fn lay(t: &mut [u64], own: &[u64], n: usize)
-    requires { ⌜ (n ≤ length (now t)) × (n ≤ length (now own)) ⌝ }
-    ensures { λ _. ⌜ now (t .exit) ≡ paste (now (t .entry)) 0 (now (own .entry)) n ⌝ }
+// What rows beside the table hold before a walk: no byte repeated makes this word, so that no call fills them.
+const BLANK: u64 = 1;
+
+// The first rows of `own`, in front of t. A row a turn compiles to moves; a word a turn would to a call.
+fn lay(t: &mut [u64], own: &[u64], rows: usize)
+    requires { ⌜ (rowWidth * rows ≤ length (now t)) × (rowWidth * rows ≤ length (now own)) × (rows ≤ mostRows) ⌝ }
+    ensures { λ _. ⌜ now (t .exit) ≡ paste (now (t .entry)) 0 (now (own .entry)) (rowWidth * rows) ⌝ }
 {
-    let mut i: usize = 0;
-    while i < n {
-        t[i] = own[i];
-        i = i + 1;
+    let mut row: usize = 0;
+    while row < rows {
+        rows::put(t, row, rows::row_at(own, row));
+        row = row + 1;
     }
 }
 
@@ -70,7 +74,7 @@ fn once(
 {
     match frames::array(s, own, kinds, most, c, 1, depth, n) {
         Walk::To(p, u, k) => {
-            lay(t, own, rows::WIDTH * u);
+            lay(t, own, u);
             Walk::To(p, u, k)
         }
         Walk::Refused(k, p) => Walk::Refused(k, p),
@@ -96,11 +100,11 @@ fn few(
         if at < s.len() {
             if s[at] == b'*' {
                 if NESTED <= lim {
-                    let mut own = [0u64; NESTED * rows::WIDTH];
+                    let mut own = [BLANK; NESTED * rows::WIDTH];
                     return once(s, t, &mut own, kinds, NESTED, c, depth, n);
                 }
             } else if rows::FEW <= lim {
-                let mut own = [0u64; rows::SAVED];
+                let mut own = [BLANK; rows::SAVED];
                 return once(s, t, &mut own, kinds, n as usize + 1, c, depth, n);
             }
         }

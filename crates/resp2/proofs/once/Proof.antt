@@ -21,14 +21,6 @@ array-requires c κs =
 enum-known-p : tie.Need-enum-known-p
 enum-known-p c = search needs
 
-mul-lay : tie.Need-mul-lay
-mul-lay c =
-    let e = c .before .before .before .before .before .before .before .before .before .before .before .before in
-    let f = c .before .before .before .before .before .before .before .array in
-    let p = restP (frameP resp2 (e .args .depth)) 0 (holder Array (e .args .n)) in
-    let w = subst (Walks p (e .args .s .now) (e .args .most) (e .args .c .at) 1 0 (e .args .own .now) (f .last .1 .0)) (c .before .before .before .p .given .1) (f .ensures) in
-    omega (arith, e .pre .few, apart-few p (rest-fills (frameP resp2 (e .args .depth)) (frame-fills resp2 (e .args .depth)) 0 (holder Array (e .args .n))) (e .args .most) (e .args .s .now) (e .args .own .now) (f .last .1 .0) (e .args .t .now) (e .args .c .at) (e .pre .within) (e .pre .one) (e .pre .rows) (e .pre .room) w)
-
 lay-requires : tie.Need-lay-requires
 lay-requires c κs =
     let e = c .before .before .before .before .before .before .before .before .before .before .before .before in
@@ -36,7 +28,7 @@ lay-requires c κs =
     let p = restP (frameP resp2 (e .args .depth)) 0 (holder Array (e .args .n)) in
     let w = subst (Walks p (e .args .s .now) (e .args .most) (e .args .c .at) 1 0 (e .args .own .now) (f .last .1 .0)) (c .before .before .before .p .given .1) (f .ensures) in
     let b = apart-few p (rest-fills (frameP resp2 (e .args .depth)) (frame-fills resp2 (e .args .depth)) 0 (holder Array (e .args .n))) (e .args .most) (e .args .s .now) (e .args .own .now) (f .last .1 .0) (e .args .t .now) (e .args .c .at) (e .pre .within) (e .pre .one) (e .pre .rows) (e .pre .room) w in
-    (omega (arith, b, e .pre .room), omega (arith, b, e .pre .rows, f .kept .1 .0))
+    (omega (arith, b, e .pre .room), omega (arith, b, e .pre .rows, f .kept .1 .0), omega (arith, b, e .pre .few))
 
 enum-known-k : tie.Need-enum-known-k
 enum-known-k c = search needs
@@ -87,7 +79,6 @@ once-spec =
     (tie.spec
     array-requires
     enum-known-p
-    mul-lay
     lay-requires
     enum-known-k
     enum-told
