@@ -1,17 +1,16 @@
 -- A RESP3 frame's first lines, by the answers of the leaves and lengths below them.
-use mathlib.Core.Path.{_≡_, refl, sym, ap, subst, fun-ext, _∙_}
+use mathlib.Core.Path.{_≡_, refl, sym, ap, subst, _∙_}
 use mathlib.Core.List.{List}
 use mathlib.Core.Bool.{Bool, true, false, _||_}
 use Prim.Native.Nat.{ℕ, _≤_, _<_}
 use native.Mathlib.Omega.{arith}
 use lib.ListN.{length}
 use lib.Dec.{ltb, eqb}
-use borrow.Author.Tests.{eq-eqb, ne-eqb, le-leb, lt-leb, ltb-true, ltb-false, eqb-true}
-use Rattle.meaning.specs.Choice.{pick}
+use borrow.Author.Tests.{ne-eqb, le-leb, lt-leb, lt-ltb, le-ltb, ltb-true, ltb-false, eqb-true}
 use Rattle.meaning.specs.Prog.{Prog, ret, refuse, run, Out}
 use Rattle.meaning.specs.ProgLaws.{Bounded, bounded}
-use Rattle.meaning.specs.Kinds.{resp3, SimpleString, SimpleError, Number, Null, Array, Hello}
-use Rattle.meaning.specs.Frames.{Step, textLineP, numberP, lengthP, headP}
+use Rattle.meaning.specs.Kinds.{resp3, SimpleString, SimpleError, Number, Null, Array, Attribute, Hello}
+use Rattle.meaning.specs.Frames.{Step, holder, textLineP, numberP, lengthP, holderP, headP}
 use Rattle.text.specs.declared.Cursor.{Cursor}
 use Rattle.leaf.specs.Leaves.{Reads, Counts}
 use Rattle.leaf.specs.declared.Leaf.{Leaf}
@@ -19,13 +18,9 @@ use Rattle.leaf.specs.declared.Leaf.the-variants as Leaf
 use Rattle.leaf.specs.declared.Counted.the-variants as Counted
 use Rattle.leaf3.specs.Answers.{Greets}
 use Rattle.leaf3.specs.declared.Greeted.{Greeted}
-use Rattle.resp3.specs.Heads.{Heads, Says, outHead, textP, countedP, numericP, plainP, onDigits, kindP}
+use Rattle.resp3.specs.Heads.{Heads, framesOf, outHead, textP, plainP, onDigits, kindP}
 use Rattle.resp3.specs.declared.head.Head.{Head}
 use Rattle.resp3.specs.declared.head.Head.the-variants as Head
-
--- a leaf is a head, wherever its frame begins
-pub leaf-says : {p : Prog Step} {s : List ℕ} {at : ℕ} {l : Leaf} (k : ℕ) → Reads p s at l → Says p k s at (Head.Leaf l)
-leaf-says k w = record { means = λ from. w .means; places = λ from. tt }
 
 pub unknown : (s : List ℕ) (at : ℕ) → Reads (refuse 1) s at (Leaf.Refused 1 at)
 unfolding run
@@ -34,32 +29,6 @@ unknown s at = record { means = λ lim used. refl }
 -- where a head ends
 pub head-within : {k : ℕ} {s : List ℕ} {at : ℕ} {h : Head} → at ≤ length s → Heads k s at h → Bounded s 0 at 0 (outHead k at 0 h)
 head-within {k} {s} {at} l w = subst (λ (o : Out Step). Bounded s 0 at 0 o) (w .means 0 0) (bounded (headP resp3 k) s 0 at 0 l (omega arith))
-
--- ---- behind a length
-
-module _ (s : List ℕ) (k n : ℕ) (c : Cursor) where
-  pub counted-holder : Array ≤ k → Says (countedP k n) k s (c .at) (Head.Holder n c)
-  unfolding run
-  counted-holder h = rw (le-leb Array k h) (record { means = λ from lim used. refl; places = λ from. tt })
-
-  pub counted-text : {l : Leaf} → k < Array → Reads (textP k n) s (c .at) l → Says (countedP k n) k s (c .at) (Head.Leaf l)
-  counted-text h w = rw (lt-leb Array k h) (leaf-says k w)
-
-module _ (s : List ℕ) (at k : ℕ) where
-  -- a count, and then what it is for
-  pub length-count : {n : ℕ} {c : Cursor} {h : Head} → Counts true k s at (Counted.Count n c) → Says (countedP k n) k s (c .at) h → Says (lengthP resp3 k (countedP k)) k s at h
-  length-count w v = record { means = λ from lim used. w .means resp3 refl (countedP k) lim used ∙ v .means from lim used; places = v .places }
-
-  pub length-other : {l : Leaf} → Counts true k s at (Counted.Not l) → Says (lengthP resp3 k (countedP k)) k s at (Head.Leaf l)
-  length-other w = record { means = λ from. w .means resp3 refl (countedP k); places = λ from. tt }
-
-  -- ---- a Number, or a sized kind
-
-  pub numeric-number : {l : Leaf} → k ≡ Number → Reads (numberP resp3) s at l → Says (numericP k) k s at (Head.Leaf l)
-  numeric-number e w = rw (eq-eqb k Number e) (leaf-says k w)
-
-  pub numeric-length : {h : Head} → (k ≡ Number → ⊥) → Says (lengthP resp3 k (countedP k)) k s at h → Says (numericP k) k s at h
-  numeric-length e w = rw (ne-eqb k Number e) w
 
 -- ---- by the kind
 
@@ -89,9 +58,7 @@ above k h =
       ne-eqb k 16 (λ e. omega arith),
       ne-eqb k 17 (λ e. omega arith),
       ne-eqb k 18 (λ e. omega arith),
-      le-leb 7 k (omega arith),
-      lt-leb k 9 (omega arith),
-      le-leb 13 k (omega arith),
+      le-ltb k 13 (omega arith),
       lt-leb k 17 (omega arith),
     )
 
@@ -112,21 +79,31 @@ by-kind k =
     (up k 10 refl (up k 11 refl (up k 12 refl (up k 13 refl (up k 14 refl (up k 15 refl (up k 16 refl (up k 17 refl (up k 18 refl (above k))))))))))))))))))) (omega arith)
 
 module _ (s : List ℕ) (at k : ℕ) where
-  pub kind-digits : {h : Head} → onDigits k ≡ true → Says (numericP k) k s at h → Heads k s at h
-  kind-digits e w = record {
-    means = λ lim used. ap (λ (p : Prog Step). run p s lim at used) (by-kind k ∙ rw e) ∙ w .means at lim used;
-    places = w .places at;
-  }
-
   pub kind-hello : {g : Greeted} → k ≡ Hello → Greets s at g → Heads k s at (Head.Hello g)
   unfolding headP
   kind-hello e w = rw e (record { means = w .means resp3; places = w .places })
 
-  pub kind-plain : {l : Leaf} → onDigits k ≡ false → (k ≡ Hello → ⊥) → Reads (plainP k) s at l → Heads k s at (Head.Leaf l)
-  kind-plain e h w = record {
-    means = λ lim used. ap (λ (p : Prog Step). run p s lim at used) (by-kind k ∙ rw (e, ne-eqb k Hello h)) ∙ w .means lim used;
+  pub kind-unknown : Attribute < k → (k ≡ Hello → ⊥) → Heads k s at (Head.Leaf (Leaf.Refused 1 at))
+  kind-unknown h e = record {
+    means = λ lim used. ap (λ (p : Prog Step). run p s lim at used) (by-kind k ∙ rw (le-ltb k Array (omega arith), lt-leb k Attribute h, ne-eqb k Hello e)) ∙ unknown s at .means lim used;
     places = tt;
   }
+
+-- a holder
+module _ (s : List ℕ) (at k : ℕ) (low : Array ≤ k) (high : k ≤ Attribute) where
+  holds : (lim used : ℕ) → run (headP resp3 k) s lim at used ≡ run (holderP resp3 k) s lim at used
+  holds lim used = ap (λ (p : Prog Step). run p s lim at used) (by-kind k ∙ rw (le-ltb k Array low, le-leb k Attribute high))
+
+  -- a count, and the frames that it stands for
+  abbrev counts : ℕ → Prog Step
+  counts n = ret (holder k (framesOf k n))
+
+  pub holder-count : {n : ℕ} {c : Cursor} → Counts true k s at (Counted.Count n c) → Heads k s at (Head.Holder n c)
+  unfolding run
+  holder-count w = record { means = λ lim used. holds lim used ∙ w .means resp3 refl counts lim used; places = tt }
+
+  pub holder-other : {l : Leaf} → Counts true k s at (Counted.Not l) → Heads k s at (Head.Leaf l)
+  holder-other w = record { means = λ lim used. holds lim used ∙ w .means resp3 refl counts lim used; places = tt }
 
 -- a kind that has no children
 module _ (s : List ℕ) (at k : ℕ) (low : k < Array) {l : Leaf} where
@@ -137,10 +114,10 @@ module _ (s : List ℕ) (at k : ℕ) (low : k < Array) {l : Leaf} where
   leaf-number e w = reads-by (by-kind k ∙ rw e) w
 
   pub leaf-sized : (k ≡ Number → ⊥) → onDigits k ≡ true → Reads (lengthP resp3 k (textP k)) s at l → Reads (headP resp3 k) s at l
-  leaf-sized e d w = reads-by (by-kind k ∙ rw (d, ne-eqb k Number e) (ap (lengthP resp3 k) (fun-ext (λ n. rw (lt-leb Array k low))))) w
+  leaf-sized e d w = reads-by (by-kind k ∙ rw (lt-ltb k Array low, d, ne-eqb k Number e)) w
 
   pub leaf-plain : onDigits k ≡ false → Reads (plainP k) s at l → Reads (headP resp3 k) s at l
-  leaf-plain d w = reads-by (by-kind k ∙ rw (d, ne-eqb k Hello (λ e. omega arith))) w
+  leaf-plain d w = reads-by (by-kind k ∙ rw (lt-ltb k Array low, d)) w
 
 -- ---- near leaves
 
@@ -161,9 +138,8 @@ pub near-line : (k : ℕ) → k ≤ Null → (k ≡ Number → ⊥) → headP re
 near-line k h n =
     by-kind k
     ∙ rw (
+      lt-ltb k 13 (omega arith),
       ne-eqb k 3 n,
       lt-leb 7 k (omega arith),
       ne-eqb k 11 (λ e. omega arith),
-      lt-leb 13 k (omega arith),
-      ne-eqb k 18 (λ e. omega arith),
     )

@@ -22,7 +22,7 @@ use Rattle.text.specs.declared.Cursor.{Cursor}
 use Rattle.leaf.specs.Leaves.{outLeaf, Reads}
 use Rattle.leaf.specs.declared.Leaf.{Leaf}
 use Rattle.leaf.specs.declared.Leaf.the-variants as Leaf
-use Rattle.walk.specs.Walks.{walkOf, Walks, Placed}
+use Rattle.walk.specs.Walks.{walkOf, Placed}
 use Rattle.walk.specs.Tops.{rowsAfter, Laid}
 use Rattle.walk.specs.declared.Walk.{Walk}
 use Rattle.walk.specs.declared.Walk.the-variants as Walk

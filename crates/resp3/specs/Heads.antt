@@ -3,11 +3,11 @@ use mathlib.Core.Path.{_≡_}
 use mathlib.Core.List.{List}
 use mathlib.Core.Bool.{Bool, _&&_, _||_}
 use Prim.Native.Nat.{ℕ, _*_, _<_}
-use lib.Dec.{leb, eqb}
+use lib.Dec.{ltb, leb, eqb}
 use Rattle.meaning.specs.Choice.{pick}
-use Rattle.meaning.specs.Prog.{Prog, ret, refuse, run, Out, done}
+use Rattle.meaning.specs.Prog.{Prog, refuse, run, Out, done}
 use Rattle.meaning.specs.Kinds.{resp3, SimpleString, SimpleError, Number, Double, Boolean, Null, BlobString, Verbatim, BigNumber, ChunkedString, EndStream, Array, Map, Attribute, Hello}
-use Rattle.meaning.specs.Frames.{Step, leaf, holder, textLineP, numberP, lengthP, bulkP, blankP, booleanP, doubleP, verbatimP, chunkP, helloP, headP}
+use Rattle.meaning.specs.Frames.{Step, holder, textLineP, numberP, lengthP, bulkP, blankP, booleanP, doubleP, verbatimP, chunkP, helloP, holderP, headP}
 use Rattle.leaf.specs.Leaves.{outLeaf, Reads}
 use Rattle.leaf.specs.declared.Leaf.{Leaf}
 use Rattle.leaf3.specs.Answers.{outGreeted, PlacesIn}
@@ -39,28 +39,15 @@ pub record Heads (k : ℕ) (s : List ℕ) (at : ℕ) (r : Head) : Type 0 where
   pub means : (lim used : ℕ) → run (headP resp3 k) s lim at used ≡ outHead k at used r
   pub places : HeadPlaces at r
 
--- r is what p gives at a place of s, for a frame of kind k that begins anywhere before: HELLO's answer alone tells where, so it is none
-pub record Says (p : Prog Step) (k : ℕ) (s : List ℕ) (at : ℕ) (r : Head) : Type 0 where
-  pub means : (from lim used : ℕ) → run p s lim at used ≡ outHead k from used r
-  pub places : (from : ℕ) → HeadPlaces from r
-
 -- a text of n bytes, by a sized kind that has no children
 abbrev pub textP : ℕ → ℕ → Prog Step
 textP k n = pick (eqb k Verbatim) (verbatimP resp3 n) (pick (eqb k ChunkedString) (chunkP resp3 n) (bulkP resp3 k n))
 
--- what follows a length worth n, by a sized kind
-abbrev pub countedP : ℕ → ℕ → Prog Step
-countedP k n = pick (leb Array k) (ret (holder k (framesOf k n))) (textP k n)
-
--- what a Number or a sized kind asks for
-abbrev pub numericP : ℕ → Prog Step
-numericP k = pick (eqb k Number) (numberP resp3) (lengthP resp3 k (countedP k))
-
--- a Number, or a sized kind
+-- a Number, or a sized kind that has no children
 abbrev pub onDigits : ℕ → Bool
-onDigits k = eqb k Number || (leb BlobString k && leb k Verbatim) || eqb k ChunkedString || (leb Array k && leb k Attribute)
+onDigits k = eqb k Number || (leb BlobString k && leb k Verbatim) || eqb k ChunkedString
 
--- what a kind asks for that is neither of these nor HELLO
+-- what a kind of one line asks for that is none of these
 abbrev pub plainP : ℕ → Prog Step
 plainP k =
     pick (eqb k SimpleString) (textLineP resp3 k)
@@ -69,9 +56,13 @@ plainP k =
     (pick (eqb k Double) (doubleP resp3)
     (pick (eqb k Boolean) (booleanP resp3) (pick (eqb k Null) (blankP resp3 k) (pick (eqb k EndStream) (blankP resp3 k) (refuse 1)))))))
 
+-- what a kind asks for that has no children
+abbrev pub leafP : ℕ → Prog Step
+leafP k = pick (onDigits k) (pick (eqb k Number) (numberP resp3) (lengthP resp3 k (textP k))) (plainP k)
+
 -- what a kind asks for
 abbrev pub kindP : ℕ → Prog Step
-kindP k = pick (onDigits k) (numericP k) (pick (eqb k Hello) (helloP resp3) (plainP k))
+kindP k = pick (ltb k Array) (leafP k) (pick (leb k Attribute) (holderP resp3 k) (pick (eqb k Hello) (helloP resp3) (refuse 1)))
 
 -- ---- near leaves
 

@@ -5,13 +5,12 @@ use leaf3::Greeted;
 use text::Cursor;
 use text::number::Short;
 ghost use mathlib.Core.Path.{_≡_};
-ghost use mathlib.Core.Bool.{true};
 ghost use Prim.Native.Nat.{_≤_, _<_};
 ghost use lib.ListN.{length};
-ghost use Rattle.meaning.specs.Kinds.{resp3, Number, BlobString, Array};
-ghost use Rattle.meaning.specs.Frames.{numberP, lengthP, headP};
-ghost use Rattle.leaf.specs.Leaves.{Reads, Counts};
-ghost use Rattle.resp3.specs.Heads.{Heads, Says, textP, countedP, numericP, plainP, onDigits, Nears};
+ghost use Rattle.meaning.specs.Kinds.{resp3, Number, BlobString, Array, Attribute};
+ghost use Rattle.meaning.specs.Frames.{lengthP, headP};
+ghost use Rattle.leaf.specs.Leaves.{Reads};
+ghost use Rattle.resp3.specs.Heads.{Heads, textP, plainP, onDigits, Nears};
 
 pub enum Head {
     Leaf(Leaf),
@@ -33,55 +32,24 @@ fn text(s: &[u8], k: u8, n: u64, c: Cursor) -> Leaf
     }
 }
 
-// What follows a length worth n: a holder's frames, or a text.
-fn counted(s: &[u8], k: u8, n: u64, c: Cursor) -> Head
+// A sized kind that has no children, behind its type byte.
+fn sized(s: &[u8], k: u8, c: Cursor) -> Leaf
     requires { ⌜ c .at ≤ length (now s) ⌝ }
-    ensures { λ r. ⌜ Says (countedP k n) k (now (s .entry)) (c .at) r ⌝ }
+    ensures { λ r. ⌜ Reads (lengthP resp3 k (textP k)) (now (s .entry)) (c .at) r ⌝ }
 {
-    if kinds::ARRAY <= k {
-        return Head::Holder(n, c);
-    }
-    Head::Leaf(text(s, k, n, c))
-}
-
-// The length that a sized kind begins with.
-fn size_of(s: &[u8], k: u8, c: Cursor) -> Counted
-    requires { ⌜ c .at ≤ length (now s) ⌝ }
-    ensures { λ r. ⌜ Counts true k (now (s .entry)) (c .at) r ⌝ }
-{
-    leaf::length_head(s, true, k as u64, c)
-}
-
-// A sized kind, behind its type byte.
-fn sized_head(s: &[u8], k: u8, c: Cursor) -> Head
-    requires { ⌜ c .at ≤ length (now s) ⌝ }
-    ensures { λ r. ⌜ Says (lengthP resp3 k (countedP k)) k (now (s .entry)) (c .at) r ⌝ }
-{
-    match size_of(s, k, c) {
-        Counted::Count(n, next) => counted(s, k, n, next),
-        Counted::Not(l) => Head::Leaf(l),
+    match leaf::length_head(s, true, k as u64, c) {
+        Counted::Count(n, next) => text(s, k, n, next),
+        Counted::Not(l) => l,
     }
 }
 
-// A Number or a sized kind, behind its type byte.
-fn numeric_head(s: &[u8], k: u8, c: Cursor) -> Head
-    requires { ⌜ c .at ≤ length (now s) ⌝ }
-    ensures { λ r. ⌜ Says (numericP k) k (now (s .entry)) (c .at) r ⌝ }
-{
-    if k == kinds::NUMBER {
-        return Head::Leaf(leaf::number(s, c));
-    }
-    sized_head(s, k, c)
-}
-
-// Whether a kind begins with a line of digits: a Number, and the sized kinds.
+// Whether a leaf's kind begins with a line of digits: a Number, and the sized kinds.
 fn on_digits(k: u8) -> bool
     ensures { λ r. ⌜ r ≡ onDigits k ⌝ }
 {
     (k == kinds::NUMBER)
         | ((kinds::BLOB_STRING <= k) & (k <= kinds::VERBATIM))
         | (k == kinds::CHUNKED_STRING)
-        | ((kinds::ARRAY <= k) & (k <= kinds::ATTRIBUTE))
 }
 
 // A kind of one line that is neither digits nor HELLO's, behind its type byte; any other is refused.
@@ -104,33 +72,8 @@ pub fn plain_head(s: &[u8], k: u8, c: Cursor) -> Leaf
     }
 }
 
-// A frame of kind k, behind its type byte. A kind without one is refused with 1.
-pub fn head_of(s: &[u8], k: u8, c: Cursor) -> Head
-    requires { ⌜ c .at ≤ length (now s) ⌝ }
-    ensures { λ r. ⌜ Heads k (now (s .entry)) (c .at) r ⌝ }
-{
-    if on_digits(k) {
-        return numeric_head(s, k, c);
-    }
-    if k == kinds::HELLO {
-        return Head::Hello(leaf3::hello(s, c));
-    }
-    Head::Leaf(plain_head(s, k, c))
-}
-
-// A sized kind that has no children, behind its type byte.
-fn sized(s: &[u8], k: u8, c: Cursor) -> Leaf
-    requires { ⌜ c .at ≤ length (now s) ⌝ }
-    ensures { λ r. ⌜ Reads (lengthP resp3 k (textP k)) (now (s .entry)) (c .at) r ⌝ }
-{
-    match size_of(s, k, c) {
-        Counted::Count(n, next) => text(s, k, n, next),
-        Counted::Not(l) => l,
-    }
-}
-
-// A frame of kind k that has no children, behind its type byte: what a call needs whose top frame is a leaf.
-pub fn leaf_head(s: &[u8], k: u8, c: Cursor) -> Leaf
+// A frame of kind k that has no children, behind its type byte.
+fn any_leaf(s: &[u8], k: u8, c: Cursor) -> Leaf
     requires { ⌜ (c .at ≤ length (now s)) × (k < Array) ⌝ }
     ensures { λ r. ⌜ Reads (headP resp3 k) (now (s .entry)) (c .at) r ⌝ }
 {
@@ -141,6 +84,73 @@ pub fn leaf_head(s: &[u8], k: u8, c: Cursor) -> Leaf
         return sized(s, k, c);
     }
     plain_head(s, k, c)
+}
+
+// The same leaf, made again of its parts: what a call gave in memory is then in registers.
+fn again(l: Leaf) -> Leaf
+    ensures { λ r. ⌜ r ≡ l ⌝ }
+{
+    match l {
+        Leaf::Row(k, a, b, c, next) => Leaf::Row(k, a, b, c, next),
+        Leaf::Refused(k, p) => Leaf::Refused(k, p),
+        Leaf::Unfinished => Leaf::Unfinished,
+    }
+}
+
+// A kind below the holders, behind its type byte.
+fn low_head(s: &[u8], k: u8, c: Cursor) -> Head
+    requires { ⌜ (c .at ≤ length (now s)) × (k < Array) ⌝ }
+    ensures { λ r. ⌜ Heads k (now (s .entry)) (c .at) r ⌝ }
+{
+    Head::Leaf(again(any_leaf(s, k, c)))
+}
+
+// A holder, behind its type byte: a count that is no short line.
+fn long_count(s: &[u8], k: u8, c: Cursor) -> Head
+    requires { ⌜ (c .at ≤ length (now s)) × (Array ≤ k) × (k ≤ Attribute) ⌝ }
+    ensures { λ r. ⌜ Heads k (now (s .entry)) (c .at) r ⌝ }
+{
+    match leaf::length_long(s, true, k as u64, c) {
+        Counted::Count(n, next) => Head::Holder(n, next),
+        Counted::Not(l) => Head::Leaf(l),
+    }
+}
+
+// A holder, behind its type byte.
+fn holder_head(s: &[u8], k: u8, c: Cursor) -> Head
+    requires { ⌜ (c .at ≤ length (now s)) × (Array ≤ k) × (k ≤ Attribute) ⌝ }
+    ensures { λ r. ⌜ Heads k (now (s .entry)) (c .at) r ⌝ }
+{
+    match text::number::short_digits(s, c) {
+        Short::Got(n, next) => Head::Holder(n, next),
+        Short::No => long_count(s, k, c),
+    }
+}
+
+// A kind above the holders: HELLO, behind its type byte, or one that has no type byte and is refused with 1.
+fn high_head(s: &[u8], k: u8, c: Cursor) -> Head
+    requires { ⌜ (c .at ≤ length (now s)) × (Attribute < k) ⌝ }
+    ensures { λ r. ⌜ Heads k (now (s .entry)) (c .at) r ⌝ }
+{
+    if k == kinds::HELLO {
+        return Head::Hello(leaf3::hello(s, c));
+    }
+    let at = c.at;
+    Head::Leaf(Leaf::Refused(1, at))
+}
+
+// A frame of kind k, behind its type byte.
+pub fn head_of(s: &[u8], k: u8, c: Cursor) -> Head
+    requires { ⌜ c .at ≤ length (now s) ⌝ }
+    ensures { λ r. ⌜ Heads k (now (s .entry)) (c .at) r ⌝ }
+{
+    if k < kinds::ARRAY {
+        return low_head(s, k, c);
+    }
+    if k <= kinds::ATTRIBUTE {
+        return holder_head(s, k, c);
+    }
+    high_head(s, k, c)
 }
 
 // ---- what the loop over a holder's frames reads itself
@@ -212,4 +222,33 @@ pub fn near_leaf(s: &[u8], k: u8, c: Cursor) -> Near
         return Near::Line;
     }
     Near::Far
+}
+
+// ---- what a call reads itself whose top frame is a leaf
+
+fn blob(s: &[u8], c: Cursor) -> Leaf
+    requires { ⌜ c .at ≤ length (now s) ⌝ }
+    ensures { λ r. ⌜ Reads (headP resp3 BlobString) (now (s .entry)) (c .at) r ⌝ }
+{
+    match leaf::length_head(s, true, kinds::BLOB_STRING as u64, c) {
+        Counted::Count(n, next) => leaf::bulk(s, kinds::BLOB_STRING as u64, next, n),
+        Counted::Not(l) => l,
+    }
+}
+
+// A frame of kind k that has no children, behind its type byte: the common kinds here, any other by a call.
+pub fn leaf_head(s: &[u8], k: u8, c: Cursor) -> Leaf
+    requires { ⌜ (c .at ≤ length (now s)) × (k < Array) ⌝ }
+    ensures { λ r. ⌜ Reads (headP resp3 k) (now (s .entry)) (c .at) r ⌝ }
+{
+    if k == kinds::BLOB_STRING {
+        return blob(s, c);
+    }
+    if k == kinds::NUMBER {
+        return leaf::number(s, c);
+    }
+    if (k == kinds::SIMPLE_STRING) | (k == kinds::SIMPLE_ERROR) {
+        return leaf::text_line(s, k as u64, c);
+    }
+    again(any_leaf(s, k, c))
 }

@@ -6,11 +6,11 @@ use native.Mathlib.Omega.{arith}
 use borrow.Author.Needs.{needs}
 use borrow.Fn.Kinds.{In}
 use borrow.Fn.PlainCycle.{Measures, is, falls, and}
-use Rattle.meaning.specs.Prog.{Prog, run, Out, refused}
+use Rattle.meaning.specs.Prog.{Prog, run, refused}
 use Rattle.meaning.specs.ProgLaws.{then}
 use Rattle.meaning.specs.Kinds.{resp3, kindOf, Attribute}
 use Rattle.meaning.specs.Rows.{nodeOf, end, item, frameKind}
-use Rattle.meaning.specs.Frames.{Step, holder, headP, bodyP, restP, frameP}
+use Rattle.meaning.specs.Frames.{Step, headP, bodyP, restP, frameP}
 use Rattle.rows.specs.Put.{putRow, rowOf}
 use Rattle.text.specs.declared.Cursor.{Cursor}
 use Rattle.text.proofs.Moves.{taken-to, taken-more}

@@ -1,46 +1,46 @@
 -- `resp3::head::leaf_head` meets its contract: by the kind.
-use mathlib.Core.Path.{sym, _∙_}
+use mathlib.Core.Path.{sym, subst}
 use Rattle.meaning.specs.Kinds.{resp3}
-use Rattle.resp3.proofs.Heads.{leaf-number, leaf-sized, leaf-plain}
+use Rattle.meaning.specs.Frames.{headP}
+use Rattle.leaf.specs.Leaves.{Reads}
+use Rattle.leaf.specs.declared.Leaf.{Leaf}
+use Rattle.resp3.proofs.Heads.{leaf-number, near-text}
 use borrow.Author.Needs.{needs}
 use Rattle.resp3.proofs.head.leaf_head.Statement.{statement}
 use Rattle.resp3.proofs.head.leaf_head.Tie as tie
 
+blob-requires : tie.Need-blob-requires
+blob-requires c κs = search needs
+
+returns : tie.Need-returns
+returns c = rw (c .before .if1 .taken) (c .blob .ensures)
+
 number-requires : tie.Need-number-requires
 number-requires c κs = search needs
 
-returns : tie.Need-returns
-returns c =
-    let e = c .before .before .before .args in
-    leaf-number (e .s .now) (e .c .at) (e .k) (c .before .before .before .pre .1) (c .before .if1 .taken) (c .number .ensures resp3)
-
-on-digits-requires : tie.Need-on-digits-requires
-on-digits-requires c κs = search needs
-
-sized-requires : tie.Need-sized-requires
-sized-requires c κs = search needs
-
 returns-2 : tie.Need-returns-2
 returns-2 c =
-    let e = c .before .before .before .before .before .args in
-    leaf-sized (e .s .now) (e .c .at) (e .k) (c .before .before .before .before .before .pre .1) (c .before .before .before .if1 .left) (sym (c .before .before .on-digits .ensures) ∙ c .before .if2 .taken) (c .sized .ensures)
+    let e = c .before .before .before .before in
+    leaf-number (e .args .s .now) (e .args .c .at) (e .args .k) (e .pre .1) (c .before .if2 .taken) (c .number .ensures resp3)
 
-plain-head-requires : tie.Need-plain-head-requires
-plain-head-requires c κs = search needs
+text-line-requires : tie.Need-text-line-requires
+text-line-requires c κs = search needs
 
 returns-3 : tie.Need-returns-3
 returns-3 c =
     let e = c .before .before .before .before .before .args in
-    leaf-plain (e .s .now) (e .c .at) (e .k) (c .before .before .before .before .before .pre .1) (sym (c .before .before .on-digits .ensures) ∙ c .before .if2 .left) (c .plain-head .ensures)
+    near-text (e .s .now) (e .c .at) (e .k) (c .before .if3 .taken) (c .text-line .ensures resp3) .1
+
+any-leaf-requires : tie.Need-any-leaf-requires
+any-leaf-requires c κs = search needs
+
+again-requires : tie.Need-again-requires
+again-requires c κs = search needs
+
+returns-4 : tie.Need-returns-4
+returns-4 c =
+    let e = c .before .before .before .before .before .before .args in
+    subst (λ (l : Leaf). Reads (headP resp3 (e .k)) (e .s .now) (e .c .at) l) (sym (c .again .ensures)) (c .before .any-leaf .ensures)
 
 pub leaf-head-spec : {M : Type 1} → statement M
-leaf-head-spec =
-    tie.close
-    (tie.spec
-    number-requires
-    returns
-    on-digits-requires
-    sized-requires
-    returns-2
-    plain-head-requires
-    returns-3)
+leaf-head-spec = tie.close (tie.spec blob-requires returns number-requires returns-2 text-line-requires returns-3 any-leaf-requires again-requires returns-4)
