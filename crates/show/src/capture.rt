@@ -3,6 +3,7 @@ use crate::frame;
 use crate::out::Place;
 use crate::tally;
 use answers::Answer;
+use reader::Decoder;
 ghost use Prim.Native.Nat.{_+_, _≤_};
 ghost use lib.ListN.{length};
 ghost use Rattle.meaning.specs.Frames.{depthLimit};
@@ -28,8 +29,14 @@ fn decoded(protocol: Protocol, s: &[u8], at: usize, t: &mut [u64]) -> Answer
     ensures { λ r. ⌜ Decoded (profileOf protocol) depthLimit (now (s .entry)) at (now (t .entry)) (now (t .exit)) r ⌝ }
 {
     match protocol {
-        Protocol::Resp2 => resp2::decode_at(s, at, t, walk::DEPTH),
-        Protocol::Resp3 => resp3::decode_at(s, at, t, walk::DEPTH, false),
+        Protocol::Resp2 => {
+            let moved = reader::step(s, at, Decoder::Resp2, t);
+            moved.answer
+        }
+        Protocol::Resp3 => {
+            let moved = reader::step(s, at, Decoder::Streaming, t);
+            moved.answer
+        }
     }
 }
 
