@@ -7,9 +7,10 @@
  * answer.
  *
  * What a call takes. It keeps no state, allocates nothing and calls nothing, so any number of threads may be in calls
- * at once, if no other thread meanwhile uses what a call may write, and none writes what it reads. "As it was" is said
- * of a call's end: a decode may write rows on its way and put back what stood there. IMRAZGUL_STACK bytes of stack are
- * enough for each call; a RESP2 decode, an encode and the length take at most half of that.
+ * at once, if no other thread meanwhile uses what a call may write, and none writes what it reads. What is said to be
+ * as it was was not written: a decode writes rows when it knows that the frame is there, an encode bytes when it knows
+ * that they fit. IMRAZGUL_STACK bytes of stack are enough for each call; a RESP2 decode, an encode and the length take
+ * at most half of that.
  *
  * The table is lent as 64-bit words, IMRAZGUL_ROW_WORDS to a row, at most IMRAZGUL_MOST_ROWS rows; words that make no
  * whole row, or stand behind the last of those rows, are not used. Rows stand in wire order: a parent before its

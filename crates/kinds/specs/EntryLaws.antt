@@ -1,14 +1,18 @@
--- Laws of the entries: each promise allows one result, and a column is read as yes or no.
+-- Laws of the entries: each promise allows one result, a column is read as yes or no, and a kind that stands alone is both protocols'.
 use mathlib.Core.Path.{_≡_, refl, sym, _∙_}
 use mathlib.Core.List.{List, []}
 use mathlib.Core.Bool.{Bool, true, false}
+use Prim.Native.Char.{code}
 use Prim.Native.Nat.{ℕ, _<_}
 use native.Mathlib.Omega.{arith}
-use lib.Dec.{eqb}
+use lib.Dec.{eqb, ltb}
 use lib.ListN.{getD}
 use lib.Seq.{ext-getD}
-use Rattle.meaning.specs.Kinds.{Profile, column, yes, mayKey, mayCarry, hasChildren}
-use Rattle.kinds.specs.Entries.{IsKinds, IsColumns}
+use borrow.Author.Tests.{ne-eqb}
+use Rattle.meaning.specs.Choice.{pick}
+use Rattle.meaning.specs.Kinds.{Profile, kindOf, lookup, column, yes, mayKey, mayCarry, hasChildren, SimpleString, SimpleError, Number, BlobString, Array}
+use Rattle.meaning.specs.KindsLaws.{kind2-elim}
+use Rattle.kinds.specs.Entries.{IsKinds, IsColumns, loneKind}
 
 -- ---- one result
 
@@ -43,3 +47,41 @@ module _ (k : ℕ) where
   pub column-children : eqb (column k 2) 1 ≡ hasChildren k
   unfolding column
   column-children = is-yes (hasChildren k)
+
+-- ---- a kind that stands alone
+
+pub lone-low : (b : ℕ) → loneKind b < Array
+lone-low b = kind2-elim (λ k. pick (ltb k Array) k 0 < Array) (omega arith) (omega arith) (omega arith) (omega arith) (omega arith) (omega arith) b
+
+pub no-lone : (b : ℕ) → (b ≡ code "+" → ⊥) → (b ≡ code "-" → ⊥) → (b ≡ code ":" → ⊥) → (b ≡ code "$" → ⊥) → loneKind b ≡ 0
+unfolding kindOf lookup
+no-lone b plus minus colon dollar =
+    rw (ne-eqb (code "+") b (λ e. plus (sym e)), ne-eqb (code "-") b (λ e. minus (sym e)), ne-eqb (code ":") b (λ e. colon (sym e)), ne-eqb (code "$") b (λ e. dollar (sym e)))
+    (star (eqb (code "*") b))
+  where
+    star : (y : Bool) → pick (ltb (pick y Array 0) Array) (pick y Array 0) 0 ≡ 0
+    star true = refl
+    star false = refl
+
+-- the first of five bytes that is the one asked for, or what comes behind them
+abbrev ofFive : Bool → Bool → Bool → Bool → Bool → ℕ → ℕ
+ofFive plus minus colon dollar star rest =
+    pick plus SimpleString (pick minus SimpleError (pick colon Number (pick dollar BlobString (pick star Array rest))))
+
+-- RESP3's table goes on where RESP2's ends
+pub lone-kind : (π : Profile) (b : ℕ) → (loneKind b ≡ 0 → ⊥) → loneKind b ≡ kindOf π b
+unfolding kindOf lookup
+lone-kind π b some = go (eqb (code "+") b) (eqb (code "-") b) (eqb (code ":") b) (eqb (code "$") b) (eqb (code "*") b) _ (π .three) some
+  where
+    same : (three : Bool) (k : ℕ) → k ≡ pick three k k
+    same true k = refl
+    same false k = refl
+
+    go : (plus minus colon dollar star : Bool) (rest : ℕ) (three : Bool) → let k = ofFive plus minus colon dollar star 0 in (pick (ltb k Array) k 0 ≡ 0 → ⊥)
+        → pick (ltb k Array) k 0 ≡ pick three (ofFive plus minus colon dollar star rest) k
+    go true minus colon dollar star rest three h = same three SimpleString
+    go false true colon dollar star rest three h = same three SimpleError
+    go false false true dollar star rest three h = same three Number
+    go false false false true star rest three h = same three BlobString
+    go false false false false true rest three h = absurd (h refl)
+    go false false false false false rest three h = absurd (h refl)

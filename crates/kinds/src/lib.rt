@@ -2,7 +2,7 @@
 ghost use mathlib.Core.Path.{_≡_};
 ghost use Prim.Native.Nat.{_<_};
 ghost use Rattle.meaning.specs.Kinds.{Profile, resp2, resp3, kindOf, column, mayKey, mayCarry, hasChildren};
-ghost use Rattle.kinds.specs.Entries.{IsKinds, IsColumns};
+ghost use Rattle.kinds.specs.Entries.{IsKinds, IsColumns, loneKind};
 
 // The kind codes, as a row's word 0 has them.
 pub const SIMPLE_STRING: u8 = 1;
@@ -615,6 +615,19 @@ pub fn all3() -> [u8; 256]
     ensures { λ r. ⌜ IsKinds resp3 r ⌝ }
 {
     KINDS3
+}
+
+// The kind of a type byte that is a leaf's in both protocols; 0 for any other. Where the byte is named the compiler knows its entry, so a call whose one frame is such a leaf makes no table.
+pub fn lone_kind(b: u8) -> u8
+    ensures { λ r. ⌜ r ≡ loneKind b ⌝ }
+{
+    match b {
+        b'+' => KINDS2[b'+' as usize],
+        b'-' => KINDS2[b'-' as usize],
+        b':' => KINDS2[b':' as usize],
+        b'$' => KINDS2[b'$' as usize],
+        _ => 0,
+    }
 }
 
 // The kind of a type byte, by entries that are lent.

@@ -17,7 +17,6 @@ use Rattle.text.specs.declared.Cursor.{Cursor}
 use Rattle.walk.proofs.Said.{done-run}
 use Rattle.resp2.specs.Heads.{Heads, outHead}
 use Rattle.resp2.specs.declared.head.Head.{Head}
-use Rattle.resp2.specs.declared.head.Head.the-variants as Head
 
 -- ---- an array's frames
 

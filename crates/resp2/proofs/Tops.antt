@@ -1,32 +1,30 @@
 -- The top frame of RESP2: by its kind, and the whole call.
-use mathlib.Core.Path.{_≡_, refl, sym, ap, subst, _∙_}
-use mathlib.Core.List.{List, _++_}
+use mathlib.Core.Path.{_≡_, refl, sym, ap, _∙_}
+use mathlib.Core.List.{List}
 use mathlib.Core.Bool.{false}
-use Prim.Native.Nat.{ℕ, suc, _+_, _-_, _*_, _≤_, _<_}
+use Prim.Native.Nat.{ℕ, suc, _+_, _-_, _≤_, _<_}
 use native.Mathlib.Omega.{arith}
-use lib.ListN.{length, take, drop, getD}
-use lib.Seq.{sets, paste, sets-eq, take-at}
-use lib.Dec.{eqb}
+use lib.ListN.{length, getD}
+use lib.Dec.{eqb, ltb}
 use borrow.Author.Tests.{eq-eqb, ne-eqb}
 use Rattle.meaning.specs.Choice.{pick}
-use Rattle.meaning.specs.Prog.{Prog, bind, run, Out, done, refused, unfinished}
-use Rattle.meaning.specs.ProgLaws.{then, Bounded, bounded, Weighs, weighs-run, run-bind, gives-run}
+use Rattle.meaning.specs.Prog.{Prog, refuse, run, Out, refused, unfinished}
+use Rattle.meaning.specs.ProgLaws.{then, run-bind, gives-run}
 use Rattle.meaning.specs.Kinds.{resp2, kindOf, Array, Marker}
 use Rattle.meaning.specs.KindsLaws.{kind2-elim}
-use Rattle.meaning.specs.Rows.{Forest, frameKind, span, words, rowWidth, rowsIn}
-use Rattle.meaning.specs.RowsLaws.{length-words}
+use Rattle.meaning.specs.Rows.{Forest, frameKind, rowsIn}
 use Rattle.meaning.specs.Frames.{Step, holderP, headP, typeP, restP, frameP, decodeP}
 use Rattle.meaning.specs.FramesLaws.{frame-no-marker}
 use Rattle.meaning.specs.RunLaws.{type-there, type-short, frame-run, unmarked-run}
+use Rattle.kinds.specs.Entries.{loneKind}
 use Rattle.leaf.specs.Leaves.{Reads, Counts}
 use Rattle.leaf.specs.declared.Leaf.{Leaf}
 use Rattle.leaf.specs.declared.Counted.the-variants as Counted
 use Rattle.text.specs.declared.Cursor.{Cursor}
-use Rattle.walk.specs.Walks.{walkOf, Wrote, Walks, Placed}
-use Rattle.walk.specs.Tops.{rowsAfter, Laid}
+use Rattle.walk.specs.Walks.{Placed}
+use Rattle.walk.specs.Tops.{Laid}
 use Rattle.walk.specs.declared.Walk.{Walk}
 use Rattle.walk.specs.declared.Walk.the-variants as Walk
-use Rattle.walk.proofs.Said.{done-run}
 use Rattle.walk.proofs.Top.{laid, leaf-laid}
 use Rattle.resp2.specs.Heads.{leafP}
 use Rattle.resp2.specs.Tops.{arrayOut, topP}
@@ -55,6 +53,17 @@ module _ (d k : ℕ) (s : List ℕ) (lim at : ℕ) where
     top-leaf e w =
         leaf-laid (frameP resp2 d) 0 s t₀ lim l
         (rw (ne-eqb k Array e) (run-bind (leafP k) (restP (frameP resp2 d) 0) s lim at 1) ∙ ap (λ (o : Out Step). then o after) (w .means lim 1)) counted one p
+
+  -- no leaf's type byte, and no array's
+  pub top-unknown : (k ≡ Array → ⊥) → leafP k ≡ refuse 1 → (t : List ℕ) → Laid (run (topP d k) s lim at 1) t t (Walk.Refused 1 at)
+  unfolding run
+  top-unknown e l t =
+      laid (refused 1 at)
+      (rw (ne-eqb k Array e) (run-bind (leafP k) (restP (frameP resp2 d) 0) s lim at 1) ∙ ap (λ (p : Prog Step). then (run p s lim at 1) after) l) refl refl
+
+pub no-leaf : (b : ℕ) → loneKind b ≡ 0 → leafP (kindOf resp2 b) ≡ refuse 1
+no-leaf b =
+    kind2-elim (λ k. pick (ltb k Array) k 0 ≡ 0 → leafP k ≡ refuse 1) (λ e. refl) (λ e. absurd (omega arith)) (λ e. absurd (omega arith)) (λ e. absurd (omega arith)) (λ e. absurd (omega arith)) (λ e. refl) b
 
 -- ---- the whole call
 
@@ -94,34 +103,3 @@ module _ (d : ℕ) (s : List ℕ) (lim at : ℕ) where
               (type-there s lim at 1 resp2 (headP resp2) h
               ∙ ap (λ (p : Prog Step). run p s lim (at + 1) 1) (by-top (getD s at 0) ∙ ap (λ (j : ℕ). pick (eqb j Array) (holderP resp2 Array) (leafP j)) (sym e)))
               ∙ sym (run-bind (pick (eqb k Array) (holderP resp2 Array) (leafP k)) (restP (frameP resp2 (d - 1)) 0) s lim (at + 1) 1)
-
--- ---- walked once, over rows beside the table
-
--- x: what the walk left of those rows
-module _ (p : Prog Forest) (fills : Weighs 1 span p) (most : ℕ) (s own x t₀ : List ℕ) (at : ℕ) (inside : at ≤ length s) (one : 0 < most) (rows : rowWidth * most ≤ length own)
-    (room : rowWidth * most ≤ length t₀) {c : Cursor} {u k : ℕ} (w : Walks p s most at 1 0 own x (Walk.To c u k)) where
-  there : (f : Forest) × (run p s most at 1 ≡ done f (c .at) u) × (k ≡ frameKind f)
-  there = done-run (run p s most at 1) c u k (w .says)
-
-  pub apart-few : u ≤ most
-  apart-few = let r : Bounded s most at 1 (done (there .0) (c .at) u) = rw (there .1) at (bounded p s most at 1 inside (omega arith)) in r .rows
-
-  long : 0 + length (words (there .0)) ≡ rowWidth * u
-  long =
-      let b : u + 1 ≡ 1 + span (there .0) = rw (there .1) at (weighs-run span p 1 fills s most at 1) in
-      omega (arith, length-words (there .0))
-
-  -- the frames' words at the front of a table
-  in-front : (t : List ℕ) → rowWidth * most ≤ length t → sets t 0 (words (there .0)) ≡ words (there .0) ++ drop (rowWidth * u) t
-  in-front t h = sets-eq (words (there .0)) t 0 (omega (arith, long, apart-few)) ∙ ap (λ (n : ℕ). words (there .0) ++ drop n t) long
-
-  pub apart-to : {t₁ : List ℕ} → t₁ ≡ paste t₀ 0 x (rowWidth * u) → Laid (run p s most at 1) t₀ t₁ (Walk.To c u k)
-  apart-to e =
-      let o : Wrote 0 most own x (done (there .0) (c .at) u) = rw (there .1) at (w .leaves) in
-      let q : 0 + rowWidth * u ≡ rowWidth * u = omega arith in
-      laid (done (there .0) (c .at) u) (there .1) (w .says ∙ ap walkOf (there .1))
-      (e
-      ∙ ap (λ (n : ℕ). take (rowWidth * u) x ++ drop n t₀) q
-      ∙ ap (λ (l : List ℕ). take (rowWidth * u) l ++ drop (rowWidth * u) t₀) (o rows ∙ in-front own rows)
-      ∙ ap (λ (l : List ℕ). l ++ drop (rowWidth * u) t₀) (take-at (words (there .0)) (drop (rowWidth * u) own) (rowWidth * u) (omega (arith, long)))
-      ∙ sym (in-front t₀ room))

@@ -1,14 +1,12 @@
 -- A top frame: its head, and what follows it.
 use mathlib.Core.List.{List}
-use Prim.Native.Nat.{ℕ, _*_, _≤_, _<_}
+use Prim.Native.Nat.{ℕ}
 use lib.Dec.{eqb}
-use lib.ListN.{length}
 use Rattle.meaning.specs.Choice.{pick}
 use Rattle.meaning.specs.Prog.{Prog, bind, run, Out}
 use Rattle.meaning.specs.Kinds.{resp2, Array}
-use Rattle.meaning.specs.Rows.{Forest, rowWidth, mostRows}
+use Rattle.meaning.specs.Rows.{Forest}
 use Rattle.meaning.specs.Frames.{holder, holderP, restP, frameP}
-use Rattle.kinds.specs.Entries.{IsKinds}
 use Rattle.resp2.specs.Heads.{leafP}
 
 -- an array's n frames from a place on, with d deep left for them
@@ -18,12 +16,3 @@ arrayOut d n s lim at = run (restP (frameP resp2 d) 0 (holder Array n)) s lim at
 -- a frame of kind k, behind its type byte
 abbrev pub topP : ℕ → ℕ → Prog Forest
 topP d k = bind (pick (eqb k Array) (holderP resp2 Array) (leafP k)) (restP (frameP resp2 d) 0)
-
--- rows beside the table, as many as the walk is told of, and a table that has as many
-pub record Apart (most : ℕ) (s kinds own t : List ℕ) (at : ℕ) : Type 0 where
-  pub within : at ≤ length s
-  pub one : 0 < most
-  pub few : most ≤ mostRows
-  pub rows : rowWidth * most ≤ length own
-  pub room : rowWidth * most ≤ length t
-  pub lent : IsKinds resp2 kinds

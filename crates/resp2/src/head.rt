@@ -157,7 +157,7 @@ fn bulk_string(s: &[u8], c: Cursor) -> Leaf
     }
 }
 
-// A frame of kind k that is no array, behind its type byte: what a call needs whose top frame is a leaf.
+// A frame of kind k that is no array, behind its type byte: what a call needs whose one frame is a leaf.
 pub fn leaf_head(s: &[u8], k: u8, c: Cursor) -> Leaf
     requires { ⌜ c .at ≤ length (now s) ⌝ }
     ensures { λ r. ⌜ Reads (leafP k) (now (s .entry)) (c .at) r ⌝ }

@@ -8,17 +8,16 @@ use text::Cursor;
 use text::Taken;
 use walk::Walk;
 ghost use mathlib.Core.Path.{_≡_};
-ghost use Prim.Native.Nat.{_*_, _≤_};
+ghost use Prim.Native.Nat.{_≤_, _<_};
 ghost use lib.ListN.{length};
-ghost use lib.Seq.{paste};
-ghost use Rattle.meaning.specs.Prog.{run};
-ghost use Rattle.meaning.specs.Rows.{rowWidth, mostRows};
-ghost use Rattle.meaning.specs.Kinds.{resp2, Array};
-ghost use Rattle.meaning.specs.Frames.{depthLimit, holder, restP, frameP};
-ghost use Rattle.kinds.specs.Entries.{IsKinds};
+ghost use Rattle.meaning.specs.Prog.{run, refuse};
+ghost use Rattle.meaning.specs.Rows.{rowsIn};
+ghost use Rattle.meaning.specs.Kinds.{resp2, kindOf};
+ghost use Rattle.meaning.specs.Frames.{depthLimit};
 ghost use Rattle.answers.specs.Answers.{Decoded};
 ghost use Rattle.walk.specs.Tops.{Ready, Laid, Tried};
-ghost use Rattle.resp2.specs.Tops.{arrayOut, topP, Apart};
+ghost use Rattle.resp2.specs.Heads.{leafP};
+ghost use Rattle.resp2.specs.Tops.{arrayOut, topP};
 
 // A walk without a table says whether the array is there; only then is t written.
 fn twice(
@@ -40,49 +39,7 @@ fn twice(
     }
 }
 
-// How many rows an array of arrays is tried in.
-const NESTED: usize = 32;
-
-// What rows beside the table hold before a walk: no byte repeated makes this word, so that no call fills them.
-const BLANK: u64 = 1;
-
-// The first rows of `own`, in front of t. A row a turn compiles to moves; a word a turn would to a call.
-fn lay(t: &mut [u64], own: &[u64], rows: usize)
-    requires { ⌜ (rowWidth * rows ≤ length (now t)) × (rowWidth * rows ≤ length (now own)) × (rows ≤ mostRows) ⌝ }
-    ensures { λ _. ⌜ now (t .exit) ≡ paste (now (t .entry)) 0 (now (own .entry)) (rowWidth * rows) ⌝ }
-{
-    let mut row: usize = 0;
-    while row < rows {
-        rows::put(t, row, rows::row_at(own, row));
-        row = row + 1;
-    }
-}
-
-// One walk, over rows that are not the table's, `most` of them; t is written when the array is there.
-fn once(
-    s: &[u8],
-    t: &mut [u64],
-    own: &mut [u64],
-    kinds: &[u8; 256],
-    most: usize,
-    c: Cursor,
-    depth: usize,
-    n: u64,
-) -> Walk
-    requires { ⌜ Apart most (now s) (now kinds) (now own) (now t) (c .at) ⌝ }
-    ensures { λ r. ⌜ Laid (arrayOut depth n (now (s .entry)) most (c .at)) (now (t .entry)) (now (t .exit)) r ⌝ }
-{
-    match frames::array(s, own, kinds, most, c, 1, depth, n) {
-        Walk::To(p, u, k) => {
-            lay(t, own, u);
-            Walk::To(p, u, k)
-        }
-        Walk::Refused(k, p) => Walk::Refused(k, p),
-        Walk::Unfinished => Walk::Unfinished,
-    }
-}
-
-// An array of few frames, walked once: in a row for each, or, with an array at their front, in so many that most will do. An 11 is no answer: t is as it was, and it is to be walked twice.
+// An array of few frames, walked once, over rows beside the table: a row for each, or, with an array at their front, so many that most will do. An 11 is no answer: t is as it was, and it is to be walked twice.
 fn few(
     s: &[u8],
     t: &mut [u64],
@@ -99,13 +56,15 @@ fn few(
     if n < rows::FEW as u64 {
         if at < s.len() {
             if s[at] == b'*' {
-                if NESTED <= lim {
-                    let mut own = [BLANK; NESTED * rows::WIDTH];
-                    return once(s, t, &mut own, kinds, NESTED, c, depth, n);
+                if rows::NESTED <= lim {
+                    let mut own = [rows::BLANK; rows::NESTED * rows::WIDTH];
+                    let w = frames::array(s, &mut own, kinds, rows::NESTED, c, 1, depth, n);
+                    return walk::settle(t, &own, w);
                 }
             } else if rows::FEW <= lim {
-                let mut own = [BLANK; rows::SAVED];
-                return once(s, t, &mut own, kinds, n as usize + 1, c, depth, n);
+                let mut own = [rows::BLANK; rows::FEW * rows::WIDTH];
+                let w = frames::array(s, &mut own, kinds, n as usize + 1, c, 1, depth, n);
+                return walk::settle(t, &own, w);
             }
         }
     }
@@ -137,7 +96,7 @@ fn fill(
     }
 }
 
-// A top frame of kind k, behind its type byte, with `depth` left for frames beneath it.
+// A top frame behind a type byte that is no leaf's: an array, or none.
 fn top(
     s: &[u8],
     t: &mut [u64],
@@ -147,7 +106,7 @@ fn top(
     c: Cursor,
     depth: usize,
 ) -> Walk
-    requires { ⌜ Ready resp2 (now s) (now kinds) (now t) lim (c .at) ⌝ }
+    requires { ⌜ Ready resp2 (now s) (now kinds) (now t) lim (c .at) × (leafP k ≡ refuse 1) ⌝ }
     ensures { λ r. ⌜ Laid (run (topP depth k) (now (s .entry)) lim (c .at) 1) (now (t .entry)) (now (t .exit)) r ⌝ }
 {
     if k == kinds::ARRAY {
@@ -156,7 +115,21 @@ fn top(
             Counted::Not(l) => walk::leaf_row(t, 0, 0, l),
         };
     }
-    walk::leaf_row(t, 0, 0, head::leaf_head(s, k, c))
+    let at = c.at;
+    Walk::Refused(1, at)
+}
+
+// A top frame, behind its type byte b, with `depth` left for frames beneath it. A leaf needs no table of kinds.
+fn typed(s: &[u8], t: &mut [u64], lim: usize, b: u8, c: Cursor, depth: usize) -> Walk
+    requires { ⌜ (c .at ≤ length (now s)) × (lim ≡ rowsIn (length (now t))) × (0 < lim) ⌝ }
+    ensures { λ r. ⌜ Laid (run (topP depth (kindOf resp2 b)) (now (s .entry)) lim (c .at) 1) (now (t .entry)) (now (t .exit)) r ⌝ }
+{
+    let k = kinds::lone_kind(b);
+    if k != 0 {
+        return walk::leaf_row(t, 0, 0, head::leaf_head(s, k, c));
+    }
+    let kinds = kinds::all2();
+    top(s, t, &kinds, lim, kinds::kind_at(&kinds, b), c, depth)
 }
 
 // One frame from a place of s on, its rows in t, with at most `depth` frames in one another. An unfinished or refused decode leaves t as it was.
@@ -171,11 +144,7 @@ pub fn decode_at(s: &[u8], at: usize, t: &mut [u64], depth: usize) -> Answer
         return Answer::Refused(11);
     }
     match (Cursor { at }).byte(s) {
-        Taken::Byte(b, next) => {
-            let kinds = kinds::all2();
-            let k = kinds::kind_at(&kinds, b);
-            walk::answer(at, top(s, t, &kinds, lim, k, next, depth - 1))
-        }
+        Taken::Byte(b, next) => walk::answer(at, typed(s, t, lim, b, next, depth - 1)),
         Taken::More => Answer::Unfinished,
     }
 }

@@ -8,10 +8,9 @@ use lib.ListN.{length}
 use lib.Dec.{ltb, eqb}
 use borrow.Author.Tests.{ltb-true, ltb-false}
 use Rattle.meaning.specs.Choice.{pick}
-use Rattle.meaning.specs.Prog.{run, done}
 use Rattle.meaning.specs.ProgLaws.{When, gives-run}
 use Rattle.meaning.specs.Kinds.{resp3, mayKey, Set, Marker}
-use Rattle.meaning.specs.Rows.{Forest, end, join, frameKind, keysFit, mayHold, span}
+use Rattle.meaning.specs.Rows.{Forest, frameKind, keysFit, mayHold, span}
 use Rattle.meaning.specs.RowsLaws.{span-join}
 use Rattle.meaning.specs.Frames.{frameP}
 use Rattle.meaning.specs.FramesLaws.{frame-fills}

@@ -1,6 +1,6 @@
 -- A frame of RESP3, an attribute and its frame: what their runs come to, step by step.
 use mathlib.Core.Path.{_≡_, refl, sym, ap, subst, _∙_}
-use mathlib.Core.List.{List, _++_}
+use mathlib.Core.List.{List}
 use mathlib.Core.Bool.{Bool, true, false}
 use mathlib.Core.Option.{Option, none, some}
 use Prim.Native.Nat.{ℕ, suc, _+_, _-_, _*_, _≤_, _<_}
@@ -19,7 +19,7 @@ use Rattle.meaning.specs.RowsLaws.{words-join, length-words}
 use Rattle.meaning.specs.Frames.{Step, holder, headP, bodyP, typeP, framesP, restP, carriesP, annotatedP, attributeP, frameP}
 use Rattle.meaning.specs.FramesLaws.{stepKind, Item, itemOf, body-gives, body-fills, frame-fills}
 use Rattle.meaning.specs.KeyLaws.{attribute-head}
-use Rattle.meaning.specs.RunLaws.{mapOut, type-there, type-short, frame-deep, frame-full, holder-run, over}
+use Rattle.meaning.specs.RunLaws.{mapOut, type-there, type-short, frame-deep, frame-full, holder-run}
 use Rattle.rows.specs.RowLaws.{sets-append}
 use Rattle.text.specs.declared.Cursor.{Cursor}
 use Rattle.leaf.specs.Leaves.{outLeaf, Reads}

@@ -1,5 +1,5 @@
 -- The whole call, complete or streaming: a marker at its top, and its frame by its kind.
-use mathlib.Core.Path.{_≡_, refl, sym, ap, fun-ext, _∙_}
+use mathlib.Core.Path.{_≡_, refl, sym, ap, subst, fun-ext, _∙_}
 use mathlib.Core.List.{List}
 use mathlib.Core.Bool.{Bool, true, false, _&&_, _||_}
 use mathlib.Core.Option.{Option, none, some}
@@ -12,8 +12,8 @@ use Rattle.meaning.specs.Choice.{pick}
 use Rattle.meaning.specs.Demand.{bytes, line}
 use Rattle.meaning.specs.Text.{Length, count, minusOne}
 use Rattle.meaning.specs.Prog.{Prog, ret, refuse, room, here, ask, bind, run, Out, done, refused, unfinished}
-use Rattle.meaning.specs.ProgLaws.{then, run-bind, Weighs, weighs-pick}
-use Rattle.meaning.specs.Kinds.{Profile, resp3, resp3-stream, kindOf, Array, Map, Attribute, Marker}
+use Rattle.meaning.specs.ProgLaws.{then, run-bind, Weighs, weighs-bind, weighs-pick}
+use Rattle.meaning.specs.Kinds.{resp3, resp3-stream, kindOf, Array, Map, Attribute, Marker}
 use Rattle.meaning.specs.Rows.{Forest, frameKind, span, rowsIn}
 use Rattle.meaning.specs.Frames.{Step, leaf, holder, bulkP, verbatimP, chunkP, sized, lengthFor, lengthP, headP, bodyP, restP, carriesP, annotatedP, attributeP, frameP, decodeP}
 use Rattle.meaning.specs.FramesLaws.{attribute-fills, body-fills, frame-fills}
@@ -22,13 +22,12 @@ use Rattle.text.specs.declared.Cursor.{Cursor}
 use Rattle.leaf.specs.Leaves.{outLeaf, Reads}
 use Rattle.leaf.specs.declared.Leaf.{Leaf}
 use Rattle.leaf.specs.declared.Leaf.the-variants as Leaf
-use Rattle.walk.specs.Walks.{walkOf, Placed}
-use Rattle.walk.specs.Tops.{rowsAfter, Laid}
+use Rattle.walk.specs.Walks.{walkOf, Wrote, Walks, Placed}
+use Rattle.walk.specs.Tops.{Laid}
 use Rattle.walk.specs.declared.Walk.{Walk}
 use Rattle.walk.specs.declared.Walk.the-variants as Walk
-use Rattle.walk.proofs.Said.{done-run, refused-run, unfinished-run}
 use Rattle.walk.proofs.Top.{laid, leaf-laid}
-use Rattle.resp3.specs.Tops.{mode, typedP, judgedP, callP, unmarkedL}
+use Rattle.resp3.specs.Tops.{mode, typedP, judgedP, callP, judgedW, unmarkedL}
 use Rattle.resp3.proofs.Steps.{frame-0, frame-no-room, frame-more, frame-typed}
 
 -- a frame is the same in both
@@ -104,40 +103,42 @@ module _ (c : Bool) (s : List ℕ) (lim : ℕ) where
     judged-run : run (judgedP c p) s lim at used ≡ judged c (run p s lim at used)
     judged-run = run-bind p (λ f. pick (c && eqb (frameKind f) Marker) (refuse 6) (ret f)) s lim at used ∙ judge-all (run p s lim at used)
 
-    -- what a walk says
-    pub no-frame : {k a : ℕ} {t₀ t₁ : List ℕ} → Laid (run p s lim at used) t₀ t₁ (Walk.Refused k a) → Laid (run (judgedP c p) s lim at used) t₀ t₁ (Walk.Refused k a)
-    no-frame {k} {a} {t₀} v =
-        let e = refused-run (run p s lim at used) k a (v .says) in
-        laid (refused k a) (judged-run ∙ ap (judged c) e) refl (v .leaves ∙ ap (rowsAfter t₀) e)
+    says-both : (o : Out Forest) → judgedW c (walkOf o) ≡ walkOf (judged c o)
+    says-both (done f n u) = by (c && eqb (frameKind f) Marker)
+      where
+        by : (b : Bool) → pick b (Walk.Refused 6 n) (walkOf (done f n u)) ≡ walkOf (pick b (refused 6 n) (done f n u))
+        by true = refl
+        by false = refl
+    says-both (refused k n) = refl
+    says-both unfinished = refl
 
-    pub not-yet : {t₀ t₁ : List ℕ} → Laid (run p s lim at used) t₀ t₁ Walk.Unfinished → Laid (run (judgedP c p) s lim at used) t₀ t₁ Walk.Unfinished
-    not-yet {t₀} v =
-        let e = unfinished-run (run p s lim at used) (v .says) in
-        laid unfinished (judged-run ∙ ap (judged c) e) refl (v .leaves ∙ ap (rowsAfter t₀) e)
+    module _ (row : ℕ) (t₀ t₁ : List ℕ) where
+      leaves-both : (o : Out Forest) → Wrote row lim t₀ t₁ o → Wrote row lim t₀ t₁ (judged c o)
+      leaves-both (done f n u) w = by (c && eqb (frameKind f) Marker)
+        where
+          by : (b : Bool) → Wrote row lim t₀ t₁ (pick b (refused 6 n) (done f n u))
+          by true = tt
+          by false = w
+      leaves-both (refused k n) w = tt
+      leaves-both unfinished w = tt
 
-    module _ {q : Cursor} {u k : ℕ} (e : Walk.To q u k ≡ walkOf (run p s lim at used)) where
-      chosen : (b : Bool) → (c && eqb k Marker) ≡ b → (f : Forest) → run p s lim at used ≡ done f (q .at) u → k ≡ frameKind f
-          → run (judgedP c p) s lim at used ≡ pick b (refused 6 (q .at)) (done f (q .at) u)
-      chosen b h f o i = judged-run ∙ rw (o, ap (λ (j : ℕ). c && eqb j Marker) (sym i) ∙ h)
-
-      -- a marker, where none is answered
-      pub a-marker : (c && eqb k Marker) ≡ true → {t₀ t₁ : List ℕ} → t₁ ≡ t₀ → Laid (run (judgedP c p) s lim at used) t₀ t₁ (Walk.Refused 6 (q .at))
-      a-marker h same =
-          let x = done-run (run p s lim at used) q u k e in
-          laid (refused 6 (q .at)) (chosen true h (x .0) (x .1) (x .2)) refl same
-
-      -- a frame, or a marker that is answered
-      pub a-frame : (c && eqb k Marker) ≡ false → {t₀ t₁ : List ℕ} {w : Walk} → Laid (run p s lim at used) t₀ t₁ w → Laid (run (judgedP c p) s lim at used) t₀ t₁ w
-      a-frame h v =
-          let x = done-run (run p s lim at used) q u k e in
-          laid (run p s lim at used) (chosen false h (x .0) (x .1) (x .2) ∙ sym (x .1)) (v .says) (v .leaves)
+      -- a walk of a frame, judged, is one of the call's
+      pub judged-walks : {w r : Walk} → Walks p s lim at used row t₀ t₁ w → r ≡ judgedW c w → Walks (judgedP c p) s lim at used row t₀ t₁ r
+      judged-walks v e = record {
+        says = e ∙ ap (judgedW c) (v .says) ∙ says-both (run p s lim at used) ∙ ap walkOf (sym judged-run);
+        leaves = subst (Wrote row lim t₀ t₁) (sym judged-run) (leaves-both (run p s lim at used) (v .leaves));
+      }
 
 -- ---- a frame by its kind, behind its type byte
 
-pub typed-fills : (d k : ℕ) → Weighs 1 span (typedP d k)
+typed-fills : (d k : ℕ) → Weighs 1 span (typedP d k)
 typed-fills d k =
     weighs-pick span 1 (eqb k Attribute) (attributeP resp3 (frameP resp3 d)) (bodyP resp3 (frameP resp3 d) 0 k) (attribute-fills resp3 (frameP resp3 d) (frame-fills resp3 d))
     (body-fills resp3 (frameP resp3 d) (frame-fills resp3 d) 0 k)
+
+pub call-fills : (c : Bool) (d k : ℕ) → Weighs 1 span (callP c d k)
+call-fills c d k =
+    weighs-bind span span (typedP d k) _ 1 (typed-fills d k) (λ f. weighs-pick span (span f) (c && eqb (frameKind f) Marker) (refuse 6) (ret f) tt refl)
 
 -- a leaf: its row, or the marker's refusal
 pub top-leaf : (c : Bool) (d k : ℕ) (s t₀ : List ℕ) (lim at : ℕ) (l : Leaf) {t₁ : List ℕ} {r : Walk} → k < Array → Reads (headP resp3 k) s at l → lim ≡ rowsIn (length t₀) → 0 < lim

@@ -1,5 +1,4 @@
 -- A whole call: complete or streaming, and its frame by its kind.
-use mathlib.Core.Path.{_≡_}
 use mathlib.Core.Bool.{Bool, true, _&&_}
 use Prim.Native.Nat.{ℕ}
 use lib.Dec.{eqb}
@@ -10,6 +9,8 @@ use Rattle.meaning.specs.Rows.{Forest, frameKind}
 use Rattle.meaning.specs.Frames.{bodyP, attributeP, frameP}
 use Rattle.leaf.specs.declared.Leaf.{Leaf}
 use Rattle.leaf.specs.declared.Leaf.the-variants as Leaf
+use Rattle.walk.specs.declared.Walk.{Walk}
+use Rattle.walk.specs.declared.Walk.the-variants as Walk
 
 -- RESP3, complete or not
 abbrev pub mode : Bool → Profile
@@ -25,6 +26,12 @@ judgedP complete p = bind p (λ f. pick (complete && eqb (frameKind f) Marker) (
 
 abbrev pub callP : Bool → ℕ → ℕ → Prog Forest
 callP complete d k = judgedP complete (typedP d k)
+
+-- a walk at the top of a call
+abbrev pub judgedW : Bool → Walk → Walk
+judgedW complete (Walk.To p u k) = pick (complete && eqb k Marker) (Walk.Refused 6 (p .at)) (Walk.To p u k)
+judgedW complete (Walk.Refused k n) = Walk.Refused k n
+judgedW complete Walk.Unfinished = Walk.Unfinished
 
 -- a leaf at the top of a call
 abbrev pub unmarkedL : Bool → Leaf → Leaf

@@ -236,7 +236,15 @@ fn blob(s: &[u8], c: Cursor) -> Leaf
     }
 }
 
-// A frame of kind k that has no children, behind its type byte: the common kinds here, any other by a call.
+// A frame of kind k that has no children, behind its type byte, by a call.
+pub fn called_leaf(s: &[u8], k: u8, c: Cursor) -> Leaf
+    requires { ⌜ (c .at ≤ length (now s)) × (k < Array) ⌝ }
+    ensures { λ r. ⌜ Reads (headP resp3 k) (now (s .entry)) (c .at) r ⌝ }
+{
+    again(any_leaf(s, k, c))
+}
+
+// The same, the common kinds here.
 pub fn leaf_head(s: &[u8], k: u8, c: Cursor) -> Leaf
     requires { ⌜ (c .at ≤ length (now s)) × (k < Array) ⌝ }
     ensures { λ r. ⌜ Reads (headP resp3 k) (now (s .entry)) (c .at) r ⌝ }
@@ -250,5 +258,5 @@ pub fn leaf_head(s: &[u8], k: u8, c: Cursor) -> Leaf
     if (k == kinds::SIMPLE_STRING) | (k == kinds::SIMPLE_ERROR) {
         return leaf::text_line(s, k as u64, c);
     }
-    again(any_leaf(s, k, c))
+    called_leaf(s, k, c)
 }

@@ -9,19 +9,36 @@ use text::Cursor;
 use text::Taken;
 use walk::Walk;
 ghost use mathlib.Core.Path.{_≡_};
-ghost use Prim.Native.Nat.{_≤_};
+ghost use Prim.Native.Nat.{_≤_, _<_};
 ghost use lib.ListN.{length};
 ghost use Rattle.meaning.specs.Prog.{run};
-ghost use Rattle.meaning.specs.Kinds.{resp3, resp3-stream};
+ghost use Rattle.meaning.specs.Kinds.{resp3, resp3-stream, kindOf};
+ghost use Rattle.meaning.specs.Rows.{rowsIn};
 ghost use Rattle.meaning.specs.Frames.{depthLimit};
-ghost use Rattle.kinds.specs.Entries.{IsKinds, IsColumns};
-ghost use Rattle.rows.specs.Put.{fewRows, savedWords};
+ghost use Rattle.kinds.specs.Entries.{IsColumns};
 ghost use Rattle.answers.specs.Answers.{Decoded};
 ghost use Rattle.walk.specs.Walks.{Walks, Inside};
 ghost use Rattle.walk.specs.Tops.{Ready, Laid, Tried};
-ghost use Rattle.resp3.specs.Tops.{mode, typedP, callP, unmarkedL};
+ghost use Rattle.resp3.specs.Tops.{mode, typedP, callP, judgedW, unmarkedL};
 
-// A frame of kind k, behind its type byte, in the table's first rows.
+// What a walk at the top of a call says: the complete decoder refuses a marker.
+fn judged(complete: bool, w: Walk) -> Walk
+    ensures { λ r. ⌜ r ≡ judgedW complete w ⌝ }
+{
+    match w {
+        Walk::To(p, u, kind) => {
+            if complete & (kind == kinds::MARKER as u64) {
+                Walk::Refused(6, p.at)
+            } else {
+                Walk::To(p, u, kind)
+            }
+        }
+        Walk::Refused(e, p) => Walk::Refused(e, p),
+        Walk::Unfinished => Walk::Unfinished,
+    }
+}
+
+// A frame of kind k, behind its type byte, in t's first rows.
 fn walked(
     s: &[u8],
     t: &mut [u64],
@@ -56,76 +73,36 @@ fn twice(
     requires { ⌜ Ready resp3 (now s) (now kinds) (now t) lim (c .at) × IsColumns (now columns) ⌝ }
     ensures { λ r. ⌜ Laid (run (callP complete depth k) (now (s .entry)) lim (c .at) 1) (now (t .entry)) (now (t .exit)) r ⌝ }
 {
-    match walked(s, &mut t[..0], kinds, columns, lim, k, c, depth) {
-        Walk::To(p, _, kind) => {
-            if complete & (kind == kinds::MARKER as u64) {
-                let at = p.at;
-                return Walk::Refused(6, at);
-            }
-            walked(s, t, kinds, columns, lim, k, c, depth)
-        }
+    match judged(
+        complete,
+        walked(s, &mut t[..0], kinds, columns, lim, k, c, depth),
+    ) {
+        Walk::To(_, _, _) => judged(complete, walked(s, t, kinds, columns, lim, k, c, depth)),
         Walk::Refused(e, p) => Walk::Refused(e, p),
         Walk::Unfinished => Walk::Unfinished,
     }
 }
 
-// One walk, over the first rows, which are put back unless the frame is there.
-fn once(
-    s: &[u8],
-    t: &mut [u64],
-    kinds: &[u8; 256],
-    columns: &[[u8; 3]; 23],
-    k: u8,
-    c: Cursor,
-    depth: usize,
-    complete: bool,
-) -> Walk
-    requires { ⌜ (c .at ≤ length (now s)) × (savedWords ≤ length (now t)) × IsKinds resp3 (now kinds) × IsColumns (now columns) ⌝ }
-    ensures { λ r. ⌜ Laid (run (callP complete depth k) (now (s .entry)) fewRows (c .at) 1) (now (t .entry)) (now (t .exit)) r ⌝ }
-{
-    let saved = rows::front(t);
-    match walked(
-        s,
-        &mut t[..rows::SAVED],
-        kinds,
-        columns,
-        rows::FEW,
-        k,
-        c,
-        depth,
-    ) {
-        Walk::To(p, u, kind) => {
-            if complete & (kind == kinds::MARKER as u64) {
-                rows::put_back(t, &saved);
-                let at = p.at;
-                return Walk::Refused(6, at);
-            }
-            Walk::To(p, u, kind)
-        }
-        Walk::Refused(e, p) => {
-            rows::put_back(t, &saved);
-            Walk::Refused(e, p)
-        }
-        Walk::Unfinished => {
-            rows::put_back(t, &saved);
-            Walk::Unfinished
-        }
-    }
-}
-
-// Whether a frame looks as if few rows were enough: a count of one digit, and no array at the front of what it counts.
-fn looks_small(s: &[u8], k: u8, c: Cursor) -> bool
+// In how many rows a frame is tried, by its first bytes: few, where it has a count of one digit; more, where besides an array stands at the front of what it counts; else none.
+fn rows_to_try(s: &[u8], k: u8, c: Cursor) -> usize
     requires { ⌜ c .at ≤ length (now s) ⌝ }
 {
     let at = c.at;
     if s.len() - at < 4 {
-        return false;
+        return 0;
     }
     let most = if frames::in_pairs(k) { b'2' } else { b'5' };
-    (s[at] <= most) & (s[at + 1] == b'\r') & (s[at + 3] != b'*')
+    if (most < s[at]) | (s[at + 1] != b'\r') {
+        return 0;
+    }
+    if s[at + 3] == b'*' {
+        rows::NESTED
+    } else {
+        rows::FEW
+    }
 }
 
-// A frame that looks small, walked once. An 11 is no answer: t is as it was, and it is to be walked twice.
+// A frame that looks small, walked once, over rows beside the table. An 11 is no answer: t is as it was, and it is to be walked twice.
 fn few(
     s: &[u8],
     t: &mut [u64],
@@ -140,9 +117,17 @@ fn few(
     requires { ⌜ Ready resp3 (now s) (now kinds) (now t) lim (c .at) × IsColumns (now columns) ⌝ }
     ensures { λ r. ⌜ Tried (run (callP complete depth k) (now (s .entry)) lim (c .at) 1) (now (t .entry)) (now (t .exit)) r ⌝ }
 {
-    if rows::FEW <= lim {
-        if looks_small(s, k, c) {
-            return once(s, t, kinds, columns, k, c, depth, complete);
+    let most = rows_to_try(s, k, c);
+    if most <= lim {
+        if most == rows::FEW {
+            let mut own = [rows::BLANK; rows::FEW * rows::WIDTH];
+            let w = walked(s, &mut own, kinds, columns, rows::FEW, k, c, depth);
+            return walk::settle(t, &own, judged(complete, w));
+        }
+        if most == rows::NESTED {
+            let mut own = [rows::BLANK; rows::NESTED * rows::WIDTH];
+            let w = walked(s, &mut own, kinds, columns, rows::NESTED, k, c, depth);
+            return walk::settle(t, &own, judged(complete, w));
         }
     }
     let at = c.at;
@@ -193,25 +178,57 @@ fn unmarked(complete: bool, l: Leaf) -> Leaf
     }
 }
 
-// A top frame of kind k, behind its type byte, with `depth` left for frames beneath it.
+// A top frame of kind k, behind its type byte.
 fn top(
     s: &[u8],
     t: &mut [u64],
     kinds: &[u8; 256],
+    columns: &[[u8; 3]; 23],
     lim: usize,
     k: u8,
     c: Cursor,
     depth: usize,
     complete: bool,
 ) -> Walk
-    requires { ⌜ Ready resp3 (now s) (now kinds) (now t) lim (c .at) ⌝ }
+    requires { ⌜ Ready resp3 (now s) (now kinds) (now t) lim (c .at) × IsColumns (now columns) ⌝ }
     ensures { λ r. ⌜ Laid (run (callP complete depth k) (now (s .entry)) lim (c .at) 1) (now (t .entry)) (now (t .exit)) r ⌝ }
 {
     if k < kinds::ARRAY {
+        return walk::leaf_row(t, 0, 0, unmarked(complete, head::called_leaf(s, k, c)));
+    }
+    fill(s, t, kinds, columns, lim, k, c, depth, complete)
+}
+
+// A top frame, behind its type byte b, with `depth` left for frames beneath it. The common leaves need no table of kinds.
+fn typed(
+    s: &[u8],
+    t: &mut [u64],
+    lim: usize,
+    b: u8,
+    c: Cursor,
+    depth: usize,
+    complete: bool,
+) -> Walk
+    requires { ⌜ (c .at ≤ length (now s)) × (lim ≡ rowsIn (length (now t))) × (0 < lim) ⌝ }
+    ensures { λ r. ⌜ Laid (run (callP complete depth (kindOf resp3 b)) (now (s .entry)) lim (c .at) 1) (now (t .entry)) (now (t .exit)) r ⌝ }
+{
+    let k = kinds::lone_kind(b);
+    if k != 0 {
         return walk::leaf_row(t, 0, 0, unmarked(complete, head::leaf_head(s, k, c)));
     }
+    let kinds = kinds::all3();
     let columns = kinds::all_columns();
-    fill(s, t, kinds, &columns, lim, k, c, depth, complete)
+    top(
+        s,
+        t,
+        &kinds,
+        &columns,
+        lim,
+        kinds::kind_at(&kinds, b),
+        c,
+        depth,
+        complete,
+    )
 }
 
 // One frame from a place of s on, its rows in t, with at most `depth` frames in one another. An unfinished or refused decode leaves t as it was.
@@ -226,11 +243,7 @@ pub fn decode_at(s: &[u8], at: usize, t: &mut [u64], depth: usize, complete: boo
         return Answer::Refused(11);
     }
     match (Cursor { at }).byte(s) {
-        Taken::Byte(b, next) => {
-            let kinds = kinds::all3();
-            let k = kinds::kind_at(&kinds, b);
-            walk::answer(at, top(s, t, &kinds, lim, k, next, depth - 1, complete))
-        }
+        Taken::Byte(b, next) => { walk::answer(at, typed(s, t, lim, b, next, depth - 1, complete)) }
         Taken::More => Answer::Unfinished,
     }
 }

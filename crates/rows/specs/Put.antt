@@ -38,10 +38,3 @@ rowAt t row =
       span = getD t (i + 4) 0;
       attribute = getD t (i + 5) 0;
     }
-
--- how many rows at the front can be saved, and how many words those are
-abbrev pub fewRows : ℕ
-fewRows = 6
-
-abbrev pub savedWords : ℕ
-savedWords = rowWidth * fewRows

@@ -1,10 +1,10 @@
-// The row table: how many rows it has, one row written or read, and its first rows saved and put back.
+// The row table: how many rows it has, one row written or read, and rows beside it that are laid in front of it.
 ghost use mathlib.Core.Path.{_≡_};
-ghost use mathlib.Core.List.{_++_};
 ghost use Prim.Native.Nat.{_+_, _*_, _≤_};
-ghost use lib.ListN.{length, take, drop};
-ghost use Rattle.meaning.specs.Rows.{rowWidth, rowsIn};
-ghost use Rattle.rows.specs.Put.{putRow, rowAt, savedWords};
+ghost use lib.ListN.{length};
+ghost use lib.Seq.{paste};
+ghost use Rattle.meaning.specs.Rows.{rowWidth, rowsIn, mostRows};
+ghost use Rattle.rows.specs.Put.{putRow, rowAt};
 
 // How many words a row has.
 pub const WIDTH: usize = 6;
@@ -63,33 +63,23 @@ pub fn row_at(t: &[u64], row: usize) -> Row
     }
 }
 
-// How many rows at the front of a table are saved by `front`, and how many words those are.
+// How many rows beside a table a holder of few frames is walked in: a command of up to five frames.
 pub const FEW: usize = 6;
 
-pub const SAVED: usize = FEW * WIDTH;
+// And one with an array at its front: as many as frames may stand in one another.
+pub const NESTED: usize = 32;
 
-// The words of a table's first rows.
-pub fn front(t: &[u64]) -> [u64; SAVED]
-    requires { ⌜ savedWords ≤ length (now t) ⌝ }
-    ensures { λ r. ⌜ r ≡ take (savedWords) (now (t .entry)) ⌝ }
-{
-    let mut words = [0u64; SAVED];
-    let mut i: usize = 0;
-    while i < SAVED {
-        words[i] = t[i];
-        i = i + 1;
-    }
-    words
-}
+// What rows beside a table hold before a walk: no byte repeated makes this word, so that no call fills them.
+pub const BLANK: u64 = 1;
 
-// Puts them back.
-pub fn put_back(t: &mut [u64], words: &[u64])
-    requires { ⌜ (savedWords ≤ length (now t)) × (savedWords ≤ length (now words)) ⌝ }
-    ensures { λ _. ⌜ now (t .exit) ≡ take savedWords (now (words .entry)) ++ drop savedWords (now (t .entry)) ⌝ }
+// The first rows of `own`, in front of t. A row a turn compiles to moves; a word a turn would to a call.
+pub fn lay(t: &mut [u64], own: &[u64], rows: usize)
+    requires { ⌜ (rowWidth * rows ≤ length (now t)) × (rowWidth * rows ≤ length (now own)) × (rows ≤ mostRows) ⌝ }
+    ensures { λ _. ⌜ now (t .exit) ≡ paste (now (t .entry)) 0 (now (own .entry)) (rowWidth * rows) ⌝ }
 {
-    let mut i: usize = 0;
-    while i < SAVED {
-        t[i] = words[i];
-        i = i + 1;
+    let mut row: usize = 0;
+    while row < rows {
+        put(t, row, row_at(own, row));
+        row = row + 1;
     }
 }

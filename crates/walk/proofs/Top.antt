@@ -1,22 +1,21 @@
--- The frame at the top of a call: a walk without a table and then one over it, a walk over the first rows, and the answer.
+-- The frame at the top of a call: a walk without a table and then one over it, a walk over rows beside the table, and the answer.
 use mathlib.Core.Path.{_≡_, refl, sym, ap, subst, _∙_}
 use mathlib.Core.List.{List, [], _∷_, _++_}
 use mathlib.Core.Bool.{Bool, true, false}
-use Prim.Native.Nat.{ℕ, suc, _+_, _-_, _≤_, _<_}
+use Prim.Native.Nat.{ℕ, _+_, _-_, _*_, _≤_, _<_}
 use native.Mathlib.Omega.{arith}
 use lib.Dec.{eqb}
-use lib.ListN.{length, take, drop, set, length-set, take-append-drop}
-use lib.Seq.{sets, set-append-left, take-all, drop-at, length-take-le}
+use lib.ListN.{length, take, drop}
+use lib.Seq.{sets, paste, sets-eq, take-at}
 use Rattle.meaning.specs.Choice.{pick}
 use Rattle.meaning.specs.Prog.{Prog, run, Out, done, refused, unfinished}
 use Rattle.meaning.specs.ProgLaws.{then, NotFull, Bounded, bounded, roomier, Weighs, weighs-run}
 use Rattle.meaning.specs.Kinds.{Profile, Marker}
-use Rattle.meaning.specs.Rows.{nodeOf, Forest, end, item, frameKind, span, words, rowsIn}
+use Rattle.meaning.specs.Rows.{nodeOf, Forest, end, item, frameKind, span, words, rowWidth, mostRows, rowsIn}
 use Rattle.meaning.specs.RowsLaws.{length-words}
 use Rattle.meaning.specs.Frames.{restP, decodeP}
 use Rattle.meaning.specs.Decode.{frame, marker, outcomeOf, decode}
 use Rattle.meaning.specs.RunLaws.{leaf-run, decodeRun-is, decode-is}
-use Rattle.rows.specs.Put.{savedWords, fewRows}
 use Rattle.answers.specs.Answers.{answerOf, tableAfter, Decoded}
 use Rattle.answers.specs.declared.Answer.{Answer}
 use Rattle.answers.specs.declared.Answer.the-variants as Answer
@@ -25,7 +24,7 @@ use Rattle.leaf.specs.Leaves.{outLeaf}
 use Rattle.leaf.specs.declared.Leaf.{Leaf}
 use Rattle.leaf.specs.declared.Leaf.the-variants as Leaf
 use Rattle.walk.specs.Walks.{walkOf, Wrote, Walks, Placed, Behind, answerAs}
-use Rattle.walk.specs.Tops.{rowsAfter, Laid, Full, Tried}
+use Rattle.walk.specs.Tops.{rowsAfter, Laid, Fits, settledIn, Full, Tried}
 use Rattle.walk.specs.declared.Walk.{Walk}
 use Rattle.walk.specs.declared.Walk.the-variants as Walk
 use Rattle.walk.proofs.Said.{done-run, refused-run, unfinished-run}
@@ -58,7 +57,7 @@ behind p s lim from at used {w} h k l e = subst (Behind from) (sym e) (go (run p
 
 -- ---- twice: first without a table
 
-pub none-left : (l t : List ℕ) → length l ≡ 0 → l ++ t ≡ t
+none-left : (l t : List ℕ) → length l ≡ 0 → l ++ t ≡ t
 none-left [] t e = refl
 none-left (a ∷ l) t e = absurd (omega arith)
 
@@ -79,48 +78,57 @@ module _ (p : Prog Forest) (s t₀ l : List ℕ) (lim at used : ℕ) (e : lim �
       let o : Wrote 0 lim t₀ t₁ (done (x .0) (c .at) u) = rw (x .1) at (v .leaves) in
       laid (done (x .0) (c .at) u) (x .1) (v .says ∙ ap walkOf (x .1)) (o (omega arith))
 
--- ---- once: over the first rows
+-- ---- once: over rows beside the table
 
-sets-append-left : (ws a b : List ℕ) (i : ℕ) → i + length ws ≤ length a → sets (a ++ b) i ws ≡ sets a i ws ++ b
-sets-append-left [] a b i h = refl
-sets-append-left (w ∷ ws) a b i h =
-    ap (λ (l : List ℕ). sets l (suc i) ws) (set-append-left a b i w (omega arith))
-    ∙ sets-append-left ws (set a i w) b (suc i) (rw length-set (omega arith))
+-- a frame; x: what the walk left of those rows
+module _ (p : Prog Forest) (fills : Weighs 1 span p) (most : ℕ) (s own x t₀ : List ℕ) (at : ℕ) {c : Cursor} {u k : ℕ} (w : Walks p s most at 1 0 own x (Walk.To c u k)) (inside : at ≤ length s)
+    (one : 0 < most) (rows : rowWidth * most ≤ length own) (room : rowWidth * most ≤ length t₀) where
+  ended : (f : Forest) × (run p s most at 1 ≡ done f (c .at) u) × (k ≡ frameKind f)
+  ended = done-run (run p s most at 1) c u k (w .says)
 
-sets-front : (ws t : List ℕ) (m : ℕ) → length ws ≤ m → m ≤ length t → sets (take m t) 0 ws ++ drop m t ≡ sets t 0 ws
-sets-front ws t m h k =
-    sym (sets-append-left ws (take m t) (drop m t) 0 (omega (arith, length-take-le m t k))) ∙ ap (λ (l : List ℕ). sets l 0 ws) (take-append-drop m t)
+  few-used : u ≤ most
+  few-used = let r : Bounded s most at 1 (done (ended .0) (c .at) u) = rw (ended .1) at (bounded p s most at 1 inside (omega arith)) in r .rows
 
--- n frames and their holder, in a row for each: x is what the walk left of the first rows
-module _ (p : Prog Forest) (fills : Weighs 1 span p) (n : ℕ) (s t₀ x : List ℕ) (at : ℕ) (few : n < fewRows) (inside : at ≤ length s) (room : savedWords ≤ length t₀)
-    (z : length x ≡ length (take savedWords t₀)) where
-  long : length x ≡ savedWords
-  long = z ∙ length-take-le savedWords t₀ room
+  size : 0 + length (words (ended .0)) ≡ rowWidth * u
+  size =
+      let b : u + 1 ≡ 1 + span (ended .0) = rw (ended .1) at (weighs-run span p 1 fills s most at 1) in
+      omega (arith, length-words (ended .0))
 
-  -- the first rows put back
-  pub put-back : (saved : List ℕ) → saved ≡ take savedWords t₀ → take savedWords saved ++ drop savedWords (x ++ drop savedWords t₀) ≡ t₀
-  put-back saved e =
-      rw (e, drop-at x (drop savedWords t₀) savedWords long, take-all savedWords (take savedWords t₀) (omega (arith, length-take-le savedWords t₀ room)))
-      (take-append-drop savedWords t₀)
+  -- the frames' words at the front of a table
+  in-front : (t : List ℕ) → rowWidth * most ≤ length t → sets t 0 (words (ended .0)) ≡ words (ended .0) ++ drop (rowWidth * u) t
+  in-front t h = sets-eq (words (ended .0)) t 0 (omega (arith, size, few-used)) ∙ ap (λ (n : ℕ). words (ended .0) ++ drop n t) size
 
-  abbrev Walked : Walk → Type 0
-  Walked w = Walks p s (n + 1) at 1 0 (take savedWords t₀) x w
+  frame-laid : {t₁ : List ℕ} → t₁ ≡ paste t₀ 0 x (rowWidth * u) → Laid (run p s most at 1) t₀ t₁ (Walk.To c u k)
+  frame-laid e =
+      let o : Wrote 0 most own x (done (ended .0) (c .at) u) = rw (ended .1) at (w .leaves) in
+      let q : 0 + rowWidth * u ≡ rowWidth * u = omega arith in
+      laid (done (ended .0) (c .at) u) (ended .1) (w .says ∙ ap walkOf (ended .1))
+      (e
+      ∙ ap (λ (n : ℕ). take (rowWidth * u) x ++ drop n t₀) q
+      ∙ ap (λ (l : List ℕ). take (rowWidth * u) l ++ drop (rowWidth * u) t₀) (o rows ∙ in-front own rows)
+      ∙ ap (λ (l : List ℕ). l ++ drop (rowWidth * u) t₀) (take-at (words (ended .0)) (drop (rowWidth * u) own) (rowWidth * u) (omega (arith, size)))
+      ∙ sym (in-front t₀ room))
 
-  pub once-to : {c : Cursor} {u k : ℕ} → Walked (Walk.To c u k) → Laid (run p s (n + 1) at 1) t₀ (x ++ drop savedWords t₀) (Walk.To c u k)
-  once-to {c} {u} {k} w =
-      let y = done-run (run p s (n + 1) at 1) c u k (w .says) in
-      let o : Wrote 0 (n + 1) (take savedWords t₀) x (done (y .0) (c .at) u) = rw (y .1) at (w .leaves) in
-      let b : u + 1 ≡ 1 + span (y .0) = rw (y .1) at (weighs-run span p 1 fills s (n + 1) at 1) in
-      let r : Bounded s (n + 1) at 1 (done (y .0) (c .at) u) = rw (y .1) at (bounded p s (n + 1) at 1 inside (omega arith)) in
-      laid (done (y .0) (c .at) u) (y .1) (w .says ∙ ap walkOf (y .1))
-      (ap (λ (l : List ℕ). l ++ drop savedWords t₀) (o (omega (arith, length-take-le savedWords t₀ room)))
-      ∙ sets-front (words (y .0)) t₀ savedWords (omega (arith, length-words (y .0), r .rows)) room)
+module _ (p : Prog Forest) (fills : Weighs 1 span p) (most : ℕ) (s own x t₀ : List ℕ) (at : ℕ) where
+  -- what is laid in front of the table fits there
+  pub apart-fits : (w : Walk) → Walks p s most at 1 0 own x w → at ≤ length s → 0 < most → most ≤ mostRows → rowWidth * most ≤ length own → rowWidth * most ≤ length t₀ → length x ≡ length own
+      → Fits t₀ x w
+  apart-fits (Walk.To c u k) v inside one few rows room z =
+      let b = few-used p fills most s own x t₀ at v inside one rows room in
+      (omega (arith, b), omega (arith, b), omega (arith, b))
+  apart-fits (Walk.Refused k n) v inside one few rows room z = tt
+  apart-fits Walk.Unfinished v inside one few rows room z = tt
 
-  pub once-refused : {k a : ℕ} {t₁ : List ℕ} → Walked (Walk.Refused k a) → t₁ ≡ t₀ → Laid (run p s (n + 1) at 1) t₀ t₁ (Walk.Refused k a)
-  once-refused {k} {a} w e = laid (refused k a) (refused-run (run p s (n + 1) at 1) k a (w .says)) refl e
+  pub apart-laid : (w : Walk) → Walks p s most at 1 0 own x w → at ≤ length s → 0 < most → rowWidth * most ≤ length own → rowWidth * most ≤ length t₀ → {t₁ : List ℕ} {r : Walk}
+      → (r ≡ w) × (t₁ ≡ settledIn t₀ x w) → Laid (run p s most at 1) t₀ t₁ r
+  apart-laid w v inside one rows room {t₁} {r} e = subst (Laid (run p s most at 1) t₀ t₁) (sym (e .0)) (by w v (e .1))
+    where
+      by : (w : Walk) → Walks p s most at 1 0 own x w → t₁ ≡ settledIn t₀ x w → Laid (run p s most at 1) t₀ t₁ w
+      by (Walk.To c u k) v h = frame-laid p fills most s own x t₀ at v inside one rows room h
+      by (Walk.Refused k n) v h = laid (refused k n) (refused-run (run p s most at 1) k n (v .says)) refl h
+      by Walk.Unfinished v h = laid unfinished (unfinished-run (run p s most at 1) (v .says)) refl h
 
-  pub once-unfinished : {t₁ : List ℕ} → Walked Walk.Unfinished → t₁ ≡ t₀ → Laid (run p s (n + 1) at 1) t₀ t₁ Walk.Unfinished
-  once-unfinished w e = laid unfinished (unfinished-run (run p s (n + 1) at 1) (w .says)) refl e
+-- ---- a try in few rows
 
 -- what was not tried, and left the table alone
 pub untried : {o : Out Forest} {t : List ℕ} (at : ℕ) → Tried o t t (Walk.Refused 11 at)

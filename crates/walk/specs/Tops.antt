@@ -1,12 +1,12 @@
 -- What the frame at the top of a call comes to, and what it leaves in the table: of any program that gives frames.
 use mathlib.Core.Path.{_≡_}
 use mathlib.Core.List.{List}
-use Prim.Native.Nat.{ℕ, _≤_, _<_}
+use Prim.Native.Nat.{ℕ, _*_, _≤_, _<_}
 use lib.ListN.{length}
-use lib.Seq.{sets}
+use lib.Seq.{sets, paste}
 use Rattle.meaning.specs.Prog.{Out, done, refused, unfinished}
 use Rattle.meaning.specs.Kinds.{Profile}
-use Rattle.meaning.specs.Rows.{Forest, words, rowsIn}
+use Rattle.meaning.specs.Rows.{Forest, words, rowsIn, rowWidth, mostRows}
 use Rattle.kinds.specs.Entries.{IsKinds}
 use Rattle.walk.specs.Walks.{walkOf}
 use Rattle.walk.specs.declared.Walk.{Walk}
@@ -30,6 +30,18 @@ pub record Laid (o : Out Forest) (t₀ t₁ : List ℕ) (r : Walk) : Type 0 wher
   pub leaves : t₁ ≡ rowsAfter t₀ o
 
 -- ---- a holder of a few frames, walked once in few rows
+
+-- the rows of a frame, beside a table and in it
+abbrev pub Fits : List ℕ → List ℕ → Walk → Type 0
+Fits t own (To c u k) = (rowWidth * u ≤ length t) × (rowWidth * u ≤ length own) × (u ≤ mostRows)
+Fits t own (Refused k n) = Unit {0}
+Fits t own Unfinished = Unit {0}
+
+-- the table, with the rows of a frame in front
+abbrev pub settledIn : List ℕ → List ℕ → Walk → List ℕ
+settledIn t own (To c u k) = paste t 0 own (rowWidth * u)
+settledIn t own (Refused k n) = t
+settledIn t own Unfinished = t
 
 -- 11 in fewer rows than the table has is no answer
 abbrev pub Full : Walk → Type 0

@@ -1,4 +1,4 @@
-// What no protocol has alone of a walk over frames: what it says, a leaf's row, a holder's row, and the answer of the whole call.
+// What no protocol has alone of a walk over frames: what it says, a leaf's row, a holder's row, rows beside the table, and the answer of the whole call.
 use answers::Answer;
 use leaf::Leaf;
 use rows::Row;
@@ -8,6 +8,7 @@ ghost use Prim.Native.Nat.{_+_, _-_, _≤_, _<_};
 ghost use Rattle.meaning.specs.Rows.{nodeOf, mostRows};
 ghost use Rattle.rows.specs.Put.{putRow, rowOf};
 ghost use Rattle.walk.specs.Walks.{Placed, Behind, answerAs};
+ghost use Rattle.walk.specs.Tops.{Fits, settledIn};
 
 // How many frames may stand in one another.
 pub const DEPTH: usize = 32;
@@ -57,6 +58,21 @@ pub fn holder_row(t: &mut [u64], first: usize, used: usize, kind: u64, n: u64, a
         attribute,
     };
     rows::put(t, first - 1, own);
+}
+
+// What a walk over rows beside the table says. Where a frame is there, its rows are laid in front of t.
+pub fn settle(t: &mut [u64], own: &[u64], w: Walk) -> Walk
+    requires { ⌜ Fits (now t) (now own) w ⌝ }
+    ensures { λ r. ⌜ (r ≡ w) × (now (t .exit) ≡ settledIn (now (t .entry)) (now (own .entry)) w) ⌝ }
+{
+    match w {
+        Walk::To(c, u, k) => {
+            rows::lay(t, own, u);
+            Walk::To(c, u, k)
+        }
+        Walk::Refused(k, place) => Walk::Refused(k, place),
+        Walk::Unfinished => Walk::Unfinished,
+    }
 }
 
 // The answer of a call that began at `at`.

@@ -3,7 +3,7 @@ use mathlib.Core.Path.{subst}
 use mathlib.Core.Bool.{false}
 use Rattle.meaning.specs.Kinds.{Array}
 use Rattle.leaf.specs.Leaves.{Counts, count-within}
-use Rattle.resp2.proofs.Tops.{top-count, top-null, top-leaf}
+use Rattle.resp2.proofs.Tops.{top-count, top-null, top-unknown}
 use borrow.Author.Needs.{needs}
 use Rattle.resp2.proofs.top.Statement.{statement}
 use Rattle.resp2.proofs.top.Tie as tie
@@ -23,7 +23,7 @@ fill-requires c κs =
     let n = c .before .before .n in
     let lengthhead = c .before .before .before .before .length-head in
     let w = (subst (Counts false Array (e .args .s .now) (e .args .c .at)) (n .given .1) (lengthhead .ensures)) in
-    record { within = count-within false Array (e .args .s .now) (e .args .c .at) _ _ (e .pre .within) w; counted = e .pre .counted; one = e .pre .one; lent = e .pre .lent }
+    record { within = count-within false Array (e .args .s .now) (e .args .c .at) _ _ (e .pre .0 .within) w; counted = e .pre .0 .counted; one = e .pre .0 .one; lent = e .pre .0 .lent }
 
 enum-known-l : tie.Need-enum-known-l
 enum-known-l c = search needs
@@ -54,25 +54,13 @@ returns-2 c =
     let l = c .before .before .before .before .before .l in
     let lengthhead = c .before .before .before .before .before .before .before .length-head in
     let if1 = c .before .before .before .before .before .before .before .before .if1 in
-    top-null (e .args .depth) (e .args .k) (e .args .s .now) (e .args .lim) (e .args .c .at) _ (e .pre .counted) (e .pre .one) (leafrow .ensures) (if1 .taken)
+    top-null (e .args .depth) (e .args .k) (e .args .s .now) (e .args .lim) (e .args .c .at) _ (e .pre .0 .counted) (e .pre .0 .one) (leafrow .ensures) (if1 .taken)
     (subst (Counts false Array (e .args .s .now) (e .args .c .at)) (l .given .1) (lengthhead .ensures))
-
-leaf-head-requires : tie.Need-leaf-head-requires
-leaf-head-requires c κs = search needs
-
-leaf-row-requires-2 : tie.Need-leaf-row-requires-2
-leaf-row-requires-2 c κs = search needs
-
-same-length-3 : tie.Need-same-length-3
-same-length-3 c = search needs
 
 returns-3 : tie.Need-returns-3
 returns-3 c =
-    let e = c .before .before .before .before .before .before .before .before in
-    let leafrow2 = c .before .before .leaf-row2 in
-    let leafhead = c .before .before .before .leaf-head in
-    let if1 = c .before .before .before .before .before .if1 in
-    top-leaf (e .args .depth) (e .args .k) (e .args .s .now) (e .args .lim) (e .args .c .at) _ (e .pre .counted) (e .pre .one) (leafrow2 .ensures) (if1 .left) (leafhead .ensures)
+    let e = c .before .before .before in
+    top-unknown (e .args .depth) (e .args .k) (e .args .s .now) (e .args .lim) (e .args .c .at) (c .if1 .left) (e .pre .1) (e .args .t .now)
 
 pub top-spec : {M : Type 1} → statement M
 top-spec =
@@ -88,7 +76,4 @@ top-spec =
     returns
     same-length-2
     returns-2
-    leaf-head-requires
-    leaf-row-requires-2
-    same-length-3
     returns-3)

@@ -7,8 +7,8 @@ use borrow.Author.Needs.{needs}
 use Rattle.resp3.proofs.top.Statement.{statement}
 use Rattle.resp3.proofs.top.Tie as tie
 
-leaf-head-requires : tie.Need-leaf-head-requires
-leaf-head-requires c κs = search needs
+called-leaf-requires : tie.Need-called-leaf-requires
+called-leaf-requires c κs = search needs
 
 unmarked-requires : tie.Need-unmarked-requires
 unmarked-requires c κs = search needs
@@ -23,11 +23,8 @@ returns : tie.Need-returns
 returns c =
     let e = c .before .before .before .before .before .before .before .before .before .args in
     let row = c .before .before .leaf-row in
-    top-leaf (e .complete) (e .depth) (e .k) (e .s .now) (e .t .now) (e .lim) (e .c .at) (c .before .before .before .before .leaf-head .result) (c .before .before .before .before .before .before .if1 .taken) (c .before .before .before .before .leaf-head .ensures) (c .before .before .before .before .before .before .before .before .before .pre .counted) (c .before .before .before .before .before .before .before .before .before .pre .one)
+    top-leaf (e .complete) (e .depth) (e .k) (e .s .now) (e .t .now) (e .lim) (e .c .at) (c .before .before .before .before .called-leaf .result) (c .before .before .before .before .before .before .if1 .taken) (c .before .before .before .before .called-leaf .ensures) (c .before .before .before .before .before .before .before .before .before .pre .0 .counted) (c .before .before .before .before .before .before .before .before .before .pre .0 .one)
     (subst (λ (l : Leaf). Placed l 0 0 (e .t .now) (row .last .0) (row .result)) (c .before .before .before .unmarked .ensures) (row .ensures))
-
-all-columns-requires : tie.Need-all-columns-requires
-all-columns-requires c κs = search needs
 
 fill-requires : tie.Need-fill-requires
 fill-requires c κs = search needs
@@ -42,12 +39,11 @@ pub top-spec : {M : Type 1} → statement M
 top-spec =
     tie.close
     (tie.spec
-    leaf-head-requires
+    called-leaf-requires
     unmarked-requires
     leaf-row-requires
     same-length
     returns
-    all-columns-requires
     fill-requires
     same-length-2
     returns-2)

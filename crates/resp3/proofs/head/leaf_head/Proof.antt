@@ -1,9 +1,5 @@
 -- `resp3::head::leaf_head` meets its contract: by the kind.
-use mathlib.Core.Path.{sym, subst}
 use Rattle.meaning.specs.Kinds.{resp3}
-use Rattle.meaning.specs.Frames.{headP}
-use Rattle.leaf.specs.Leaves.{Reads}
-use Rattle.leaf.specs.declared.Leaf.{Leaf}
 use Rattle.resp3.proofs.Heads.{leaf-number, near-text}
 use borrow.Author.Needs.{needs}
 use Rattle.resp3.proofs.head.leaf_head.Statement.{statement}
@@ -31,16 +27,21 @@ returns-3 c =
     let e = c .before .before .before .before .before .args in
     near-text (e .s .now) (e .c .at) (e .k) (c .before .if3 .taken) (c .text-line .ensures resp3) .1
 
-any-leaf-requires : tie.Need-any-leaf-requires
-any-leaf-requires c κs = search needs
-
-again-requires : tie.Need-again-requires
-again-requires c κs = search needs
+called-leaf-requires : tie.Need-called-leaf-requires
+called-leaf-requires c κs = search needs
 
 returns-4 : tie.Need-returns-4
-returns-4 c =
-    let e = c .before .before .before .before .before .before .args in
-    subst (λ (l : Leaf). Reads (headP resp3 (e .k)) (e .s .now) (e .c .at) l) (sym (c .again .ensures)) (c .before .any-leaf .ensures)
+returns-4 c = search needs
 
 pub leaf-head-spec : {M : Type 1} → statement M
-leaf-head-spec = tie.close (tie.spec blob-requires returns number-requires returns-2 text-line-requires returns-3 any-leaf-requires again-requires returns-4)
+leaf-head-spec =
+    tie.close
+    (tie.spec
+    blob-requires
+    returns
+    number-requires
+    returns-2
+    text-line-requires
+    returns-3
+    called-leaf-requires
+    returns-4)

@@ -1,17 +1,17 @@
--- `resp2::lay` meets its contract: the first rows are copied, one a turn.
+-- `rows::lay` meets its contract: the first rows are copied, one a turn.
 use mathlib.Core.Path.{_≡_, refl, sym, ap, _∙_}
 use mathlib.Core.List.{List, _++_}
 use Prim.Native.Nat.{ℕ, _+_, _*_, _≤_, _<_, _-_}
 use native.Mathlib.Omega.{arith}
 use lib.ListN.{length, take, drop}
-use lib.Seq.{sets, sets-eq, length-sets, length-take-le, take-add, paste}
+use lib.Seq.{sets, sets-eq, length-sets, length-take-le, take-add}
 use Rattle.meaning.specs.Rows.{rowWidth, mostRows}
 use Rattle.meaning.specs.TreeLaws.{row-words}
 use Rattle.rows.specs.Put.{putRow, rowAt, rowWords}
 use Rattle.rows.specs.RowLaws.{sets-append, put-there}
 use borrow.Author.Needs.{needs}
-use Rattle.resp2.proofs.lay.Statement.{statement}
-use Rattle.resp2.proofs.lay.Tie as tie
+use Rattle.rows.proofs.lay.Statement.{statement}
+use Rattle.rows.proofs.lay.Tie as tie
 
 -- one row more
 take-row : (l : List ℕ) (row : ℕ) → rowWidth * row + rowWidth ≤ length l → take (rowWidth * row) l ++ rowWords (rowAt l row) ≡ take (rowWidth * (row + 1)) l
