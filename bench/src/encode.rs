@@ -2,7 +2,7 @@
 
 use crate::stack;
 use crate::work::Work;
-use crate::{least, ns, ratio, Run};
+use crate::{least, ns, ratio, turns, Run};
 use redis_protocol::resp2;
 use redis_protocol::resp2::types::{OwnedFrame, Resp2Frame};
 use std::hint::black_box;
@@ -22,10 +22,10 @@ pub fn run(works: &[Work], millis: u64) {
         let mut yours = vec![0u8; n + 64];
         let (table, bytes, frame) = (&table, &w.bytes, &frame);
         let ways: Vec<Option<Run>> = vec![
-            Some(Box::new(move || imrazgul::resp2_encode(black_box(bytes), table, false, &mut mine).bytes == n as u64)),
-            Some(Box::new(move || resp2::encode::encode(&mut yours, black_box(frame), false).is_ok_and(|m| m == n))),
-            Some(Box::new(move || imrazgul::resp2_length(black_box(bytes), table, false).bytes == n as u64)),
-            Some(Box::new(move || black_box(frame).encode_len(false) >= n)),
+            Some(turns(move || imrazgul::resp2_encode(black_box(bytes), table, false, black_box(&mut mine)).bytes == n as u64)),
+            Some(turns(move || resp2::encode::encode(black_box(&mut yours), black_box(frame), false).is_ok_and(|m| m == n))),
+            Some(turns(move || imrazgul::resp2_length(black_box(bytes), table, false).bytes == n as u64)),
+            Some(turns(move || black_box(frame).encode_len(false) >= n)),
         ];
         let t = least(ways, millis / 2, 1);
         eprintln!("  encode {}", w.name);

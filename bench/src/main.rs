@@ -13,16 +13,22 @@ use work::Work;
 
 type Decode = fn(&[u8], &mut [u64]) -> imrazgul::Decoded;
 
-/// A way to decode all frames of a work once; false where it gives another answer than the work says.
-type Run<'a> = Box<dyn FnMut() -> bool + 'a>;
+/// A way to do a work so many times; false where an answer is another than the work says.
+type Run<'a> = Box<dyn FnMut(u64) -> bool + 'a>;
 
-fn ours<'a>(work: &'a Work, decode: Decode) -> Run<'a> {
+/// The turns stand around the call itself, so that a turn adds next to nothing to it.
+fn turns<'a>(mut once: impl FnMut() -> bool + 'a) -> Run<'a> {
+    Box::new(move |n| (0..n).all(|_| once()))
+}
+
+fn ours<'a>(work: &'a Work, decode: impl Fn(&[u8], &mut [u64]) -> imrazgul::Decoded + 'a) -> Run<'a> {
     let mut table = vec![0u64; 6 * 4096];
-    Box::new(move || {
+    turns(move || {
         let bytes = black_box(&work.bytes[..]);
         let mut at = 0;
         for _ in 0..work.frames {
-            let said = black_box(decode(&bytes[at..], &mut table));
+            let said = decode(&bytes[at..], &mut table);
+            black_box(&said);
             at += said.consumed as usize;
             if said.answer != u64::from(!work.unfinished) {
                 return false;
@@ -32,12 +38,17 @@ fn ours<'a>(work: &'a Work, decode: Decode) -> Run<'a> {
     })
 }
 
-fn theirs<'a, F: 'a, E: 'a>(work: &'a Work, decode: fn(&[u8]) -> Result<Option<(F, usize)>, E>) -> Run<'a> {
-    Box::new(move || {
+fn theirs<'a, F: 'a, E: 'a>(
+    work: &'a Work,
+    decode: impl Fn(&[u8]) -> Result<Option<(F, usize)>, E> + 'a,
+) -> Run<'a> {
+    turns(move || {
         let bytes = black_box(&work.bytes[..]);
         let mut at = 0;
         for _ in 0..work.frames {
-            match black_box(decode(&bytes[at..])) {
+            let said = decode(&bytes[at..]);
+            black_box(&said);
+            match said {
                 Ok(Some((_, n))) if !work.unfinished => at += n,
                 Ok(None) => return work.unfinished,
                 _ => return false,
@@ -50,7 +61,7 @@ fn theirs<'a, F: 'a, E: 'a>(work: &'a Work, decode: fn(&[u8]) -> Result<Option<(
 fn hiredis<'a>(work: &'a Work, objects: bool) -> Run<'a> {
     if work.unfinished {
         // it keeps what it was fed, so each call has a reader of its own
-        return Box::new(move || {
+        return turns(move || {
             let mut reader = Reader::new(objects);
             reader.feed(black_box(&work.bytes));
             reader.reply() == Said::Unfinished
@@ -59,7 +70,7 @@ fn hiredis<'a>(work: &'a Work, objects: bool) -> Run<'a> {
     let mut reader = Reader::new(objects);
     if work.frames > 1 {
         // in pieces, as it reads from a socket: it moves what it has not read at nearly each reply
-        return Box::new(move || {
+        return turns(move || {
             let mut replies = 0;
             for piece in black_box(&work.bytes).chunks(16 << 10) {
                 reader.feed(piece);
@@ -70,7 +81,7 @@ fn hiredis<'a>(work: &'a Work, objects: bool) -> Run<'a> {
             replies == work.frames
         });
     }
-    Box::new(move || {
+    turns(move || {
         reader.feed(black_box(&work.bytes));
         reader.reply() == Said::Reply
     })
@@ -79,20 +90,21 @@ fn hiredis<'a>(work: &'a Work, objects: bool) -> Run<'a> {
 /// The least time of one turn for each way, in nanoseconds; None for a way that does not give the work's answer. The
 /// ways take turns, so that what disturbs the machine disturbs all of them.
 fn least(mut ways: Vec<Option<Run>>, millis: u64, frames: usize) -> Vec<Option<f64>> {
-    let mut turns = vec![0u64; ways.len()];
+    let mut turns = vec![1u64; ways.len()];
     for (i, way) in ways.iter_mut().enumerate() {
-        if way.as_mut().is_some_and(|w| !w()) {
+        if way.as_mut().is_some_and(|w| !w(1)) {
             *way = None;
         }
         if let Some(w) = way {
-            // as many calls as take about 100 microseconds
-            let start = Instant::now();
-            let mut n = 0;
-            while start.elapsed().as_micros() < 300 {
-                black_box(w());
-                n += 1;
+            // as many turns as take about 100 microseconds
+            loop {
+                let start = Instant::now();
+                w(turns[i]);
+                if start.elapsed().as_micros() >= 80 {
+                    break;
+                }
+                turns[i] *= 2;
             }
-            turns[i] = (n / 3).max(1);
         }
     }
     let mut best = vec![f64::INFINITY; ways.len()];
@@ -103,9 +115,7 @@ fn least(mut ways: Vec<Option<Run>>, millis: u64, frames: usize) -> Vec<Option<f
         for (i, way) in ways.iter_mut().enumerate() {
             if let Some(w) = way {
                 let start = Instant::now();
-                for _ in 0..turns[i] {
-                    black_box(w());
-                }
+                assert!(w(turns[i]), "an answer changed");
                 best[i] = best[i].min(start.elapsed().as_nanos() as f64 / turns[i] as f64);
             }
         }
