@@ -242,7 +242,7 @@ fn main() {
     println!("# Times\n");
     // what is measured beside ours, and where: bench/run says it
     println!("{}.\n", std::env::var("BENCH_BESIDE").expect("bench/run runs this"));
-    println!("Least of many turns of about 0.1 ms, the ways taking turns on one thread, {millis} ms an input. Our tables have 4,096");
+    println!("Least of many rounds of about 0.1 ms, the ways taking turns on one thread, {millis} ms an input. Our tables have 4,096");
     println!("rows; neither they nor the outputs are cleared between calls. The crate's time has the freeing of its frame in it,");
     println!("hiredis's the copy into its reader's buffer (a pipeline's in pieces of 16 KiB) and, with objects, their freeing; where");
     println!("the input is unfinished also the making and freeing of the reader. – means that it does not give the answer: hiredis");
