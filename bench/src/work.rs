@@ -18,6 +18,10 @@ fn whole(name: &str, bytes: impl Into<Vec<u8>>) -> Work {
     Work { name: name.into(), bytes: bytes.into(), frames: 1, unfinished: false, resp3_only: false }
 }
 
+fn three(name: &str, bytes: impl Into<Vec<u8>>) -> Work {
+    Work { resp3_only: true, ..whole(name, bytes) }
+}
+
 fn cut(name: &str, bytes: &[u8], n: usize) -> Work {
     Work { unfinished: true, ..whole(name, &bytes[..n]) }
 }
@@ -90,6 +94,7 @@ pub fn all(traffic: Option<&str>) -> Vec<Work> {
     let set = command(&["SET", "key:000001", "value-1"]);
     let mut deep = b"*1\r\n".repeat(31);
     deep.extend(b"*0\r\n");
+    let seven = array('%', 7, (0..7).map(|i| format!("$6\r\nlane:{i}\r\n:{}\r\n", 40 + i).into_bytes()));
     let mut works = vec![
         whole("`+OK`", *b"+OK\r\n"),
         whole("`:7`", *b":7\r\n"),
@@ -97,7 +102,17 @@ pub fn all(traffic: Option<&str>) -> Vec<Work> {
         whole("SET command", set.clone()),
         Work { frames: 10_000, ..whole("10,000 SET commands, each", pipeline) },
         whole("100 lanes, array", lanes2.clone()),
-        Work { resp3_only: true, ..whole("100 lanes, map", lanes3) },
+        three("100 lanes, map", lanes3),
+        three("`_`", *b"_\r\n"),
+        three("`#t`", *b"#t\r\n"),
+        three("`,` and 7 digits", *b",3.141592\r\n"),
+        three("`(` and 43 digits", *b"(3492890328409238509324850943850943825024385\r\n"),
+        three("`=` Verbatim", *b"=9\r\ntxt:hello\r\n"),
+        three("map of two", *b"%2\r\n$4\r\nlane\r\n:42\r\n$2\r\nup\r\n#t\r\n"),
+        three("map of seven", seven),
+        three("set of three", *b"~3\r\n+rx\r\n+tx\r\n+err\r\n"),
+        three("push", *b">3\r\n$7\r\nmessage\r\n$5\r\nlanes\r\n$2\r\nup\r\n"),
+        three("attribute and blob", *b"|1\r\n+ttl\r\n:3600\r\n$5\r\nhello\r\n"),
         whole("4,000 integers", ints.clone()),
         whole("1,000 blobs of 32", blobs),
         whole("1 MiB blob", mib.clone()),

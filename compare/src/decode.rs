@@ -214,8 +214,8 @@ impl Rig {
             }
         }
         // a line end at every place about the blocks that a fast scan takes, with lone CRs before it
-        for n in 0..200usize {
-            for cr in [usize::MAX, 0, 1, 31, 32, 33, 63, 64, 65, 95, 96, 127, 128] {
+        for n in 0..300usize {
+            for cr in [usize::MAX, 0, 1, 7, 8, 9, 15, 16, 23, 24, 25, 31, 32, 63, 64, 127, 128, 135, 136, 137, 263, 264, 265] {
                 let mut buf = b"+".to_vec();
                 buf.extend(std::iter::repeat_n(b'x', n));
                 if cr < n {
@@ -225,6 +225,8 @@ impl Rig {
                 self.check(&buf);
                 self.check(&buf[..n + 2]);
                 self.check(&buf[..n + 3]);
+                buf.extend(std::iter::repeat_n(b'y', 300));
+                self.check(&buf);
             }
         }
         println!("  large frames and long lines: {}", commas(self.tally.buffers - before));

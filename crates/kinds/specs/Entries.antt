@@ -18,6 +18,10 @@ pub record IsColumns (rows : List (List ℕ)) : Type 0 where
   pub width : (k : ℕ) → k < 23 → length (getD rows k []) ≡ 3
   pub at : (k c : ℕ) → k < 23 → c < 3 → getD (getD rows k []) c 0 ≡ column k c
 
--- the kind of a byte that is a leaf's in RESP2, and so in RESP3; 0 of any other
+-- the kind of a byte that is a leaf's; 0 of any other
+abbrev pub leafKind : Profile → ℕ → ℕ
+leafKind π b = let k = kindOf π b in pick (ltb k Array) k 0
+
+-- of one that is a leaf's in RESP2, and so in RESP3
 abbrev pub loneKind : ℕ → ℕ
-loneKind b = let k = kindOf resp2 b in pick (ltb k Array) k 0
+loneKind = leafKind resp2

@@ -1,5 +1,5 @@
 -- Laws of the entries: each promise allows one result, a column is read as yes or no, and a kind that stands alone is both protocols'.
-use mathlib.Core.Path.{_≡_, refl, sym, _∙_}
+use mathlib.Core.Path.{_≡_, refl, sym, ap, _∙_}
 use mathlib.Core.List.{List, []}
 use mathlib.Core.Bool.{Bool, true, false}
 use Prim.Native.Char.{code}
@@ -8,11 +8,10 @@ use native.Mathlib.Omega.{arith}
 use lib.Dec.{eqb, ltb}
 use lib.ListN.{getD}
 use lib.Seq.{ext-getD}
-use borrow.Author.Tests.{ne-eqb}
+use borrow.Author.Tests.{ne-eqb, lt-ltb, ltb-true}
 use Rattle.meaning.specs.Choice.{pick}
-use Rattle.meaning.specs.Kinds.{Profile, kindOf, lookup, column, yes, mayKey, mayCarry, hasChildren, SimpleString, SimpleError, Number, BlobString, Array}
-use Rattle.meaning.specs.KindsLaws.{kind2-elim}
-use Rattle.kinds.specs.Entries.{IsKinds, IsColumns, loneKind}
+use Rattle.meaning.specs.Kinds.{Profile, kindOf, lookup, column, yes, mayKey, mayCarry, hasChildren, resp2, resp3, SimpleString, SimpleError, Number, BlobString, Array, Map, Set, Push, Attribute, Hello}
+use Rattle.kinds.specs.Entries.{IsKinds, IsColumns, leafKind, loneKind}
 
 -- ---- one result
 
@@ -50,18 +49,36 @@ module _ (k : ℕ) where
 
 -- ---- a kind that stands alone
 
-pub lone-low : (b : ℕ) → loneKind b < Array
-lone-low b = kind2-elim (λ k. pick (ltb k Array) k 0 < Array) (omega arith) (omega arith) (omega arith) (omega arith) (omega arith) (omega arith) b
+pub leaf-low : (π : Profile) (b : ℕ) → leafKind π b < Array
+leaf-low π b = go (ltb (kindOf π b) Array) refl
+  where
+    go : (y : Bool) → ltb (kindOf π b) Array ≡ y → pick y (kindOf π b) 0 < Array
+    go true e = ltb-true (kindOf π b) Array e
+    go false e = omega arith
+
+pub leaf-kind : (π : Profile) (b : ℕ) → (leafKind π b ≡ 0 → ⊥) → leafKind π b ≡ kindOf π b
+leaf-kind π b some = go (ltb (kindOf π b) Array) some
+  where
+    go : (y : Bool) → (pick y (kindOf π b) 0 ≡ 0 → ⊥) → pick y (kindOf π b) 0 ≡ kindOf π b
+    go true h = refl
+    go false h = absurd (h refl)
+
+-- the first of the bytes asked for that is a frame's with children, or HELLO's: none of them is a leaf's
+no-child : (star percent bar tilde greater hello : Bool)
+    → let k = pick star Array (pick percent Map (pick bar Attribute (pick tilde Set (pick greater Push (pick hello Hello 0))))) in pick (ltb k Array) k 0 ≡ 0
+no-child true percent bar tilde greater hello = refl
+no-child false true bar tilde greater hello = refl
+no-child false false true tilde greater hello = refl
+no-child false false false true greater hello = refl
+no-child false false false false true hello = refl
+no-child false false false false false true = refl
+no-child false false false false false false = refl
 
 pub no-lone : (b : ℕ) → (b ≡ code "+" → ⊥) → (b ≡ code "-" → ⊥) → (b ≡ code ":" → ⊥) → (b ≡ code "$" → ⊥) → loneKind b ≡ 0
 unfolding kindOf lookup
 no-lone b plus minus colon dollar =
     rw (ne-eqb (code "+") b (λ e. plus (sym e)), ne-eqb (code "-") b (λ e. minus (sym e)), ne-eqb (code ":") b (λ e. colon (sym e)), ne-eqb (code "$") b (λ e. dollar (sym e)))
-    (star (eqb (code "*") b))
-  where
-    star : (y : Bool) → pick (ltb (pick y Array 0) Array) (pick y Array 0) 0 ≡ 0
-    star true = refl
-    star false = refl
+    (no-child (eqb (code "*") b) false false false false false)
 
 -- the first of five bytes that is the one asked for, or what comes behind them
 abbrev ofFive : Bool → Bool → Bool → Bool → Bool → ℕ → ℕ
@@ -85,3 +102,33 @@ lone-kind π b some = go (eqb (code "+") b) (eqb (code "-") b) (eqb (code ":") b
     go false false false true star rest three h = same three BlobString
     go false false false false true rest three h = absurd (h refl)
     go false false false false false rest three h = absurd (h refl)
+
+pub lone-leaf : (π : Profile) (b : ℕ) → (loneKind b ≡ 0 → ⊥) → loneKind b ≡ leafKind π b
+lone-leaf π b some =
+    let e : loneKind b ≡ kindOf π b = lone-kind π b some in
+    e ∙ sym (ap (λ (y : Bool). pick y (kindOf π b) 0) (lt-ltb (kindOf π b) Array (omega (arith, e, leaf-low resp2 b))))
+
+-- a byte that stands alone in neither protocol, and is none of RESP3's own leaves'
+module _ (b : ℕ) (alone : loneKind b ≡ 0) where
+  other : (n : ℕ) → (loneKind n ≡ 0 → ⊥) → eqb n b ≡ false
+  other n some = ne-eqb n b (λ e. some (ap loneKind e ∙ alone))
+
+  pub no-leaf : (b ≡ code "_" → ⊥) → (b ≡ code "#" → ⊥) → (b ≡ code "," → ⊥) → (b ≡ code "(" → ⊥) → (b ≡ code "!" → ⊥) → (b ≡ code "=" → ⊥) → (b ≡ code ";" → ⊥) → (b ≡ code "." → ⊥)
+      → leafKind resp3 b ≡ 0
+  unfolding kindOf lookup
+  no-leaf null boolean double big error verbatim chunk end =
+      rw (
+        other (code "+") (λ e. omega (arith, e)),
+        other (code "-") (λ e. omega (arith, e)),
+        other (code ":") (λ e. omega (arith, e)),
+        other (code "$") (λ e. omega (arith, e)),
+        ne-eqb (code "_") b (λ e. null (sym e)),
+        ne-eqb (code "#") b (λ e. boolean (sym e)),
+        ne-eqb (code ",") b (λ e. double (sym e)),
+        ne-eqb (code "(") b (λ e. big (sym e)),
+        ne-eqb (code "!") b (λ e. error (sym e)),
+        ne-eqb (code "=") b (λ e. verbatim (sym e)),
+        ne-eqb (code ";") b (λ e. chunk (sym e)),
+        ne-eqb (code ".") b (λ e. end (sym e)),
+      )
+      (no-child (eqb (code "*") b) (eqb (code "%") b) (eqb (code "|") b) (eqb (code "~") b) (eqb (code ">") b) (eqb (code "H") b))

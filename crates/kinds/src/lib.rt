@@ -2,7 +2,7 @@
 ghost use mathlib.Core.Path.{_≡_};
 ghost use Prim.Native.Nat.{_<_};
 ghost use Rattle.meaning.specs.Kinds.{Profile, resp2, resp3, kindOf, column, mayKey, mayCarry, hasChildren};
-ghost use Rattle.kinds.specs.Entries.{IsKinds, IsColumns, loneKind};
+ghost use Rattle.kinds.specs.Entries.{IsKinds, IsColumns, leafKind, loneKind};
 
 // The kind codes, as a row's word 0 has them.
 pub const SIMPLE_STRING: u8 = 1;
@@ -617,15 +617,36 @@ pub fn all3() -> [u8; 256]
     KINDS3
 }
 
-// The kind of a type byte that is a leaf's in both protocols; 0 for any other. Where the byte is named the compiler knows its entry, so a call whose one frame is such a leaf makes no table.
+// The kind of a type byte that is a leaf's in both protocols; 0 for any other. The entries by name: a call whose one frame is such a leaf makes no table.
 pub fn lone_kind(b: u8) -> u8
     ensures { λ r. ⌜ r ≡ loneKind b ⌝ }
 {
     match b {
-        b'+' => KINDS2[b'+' as usize],
-        b'-' => KINDS2[b'-' as usize],
-        b':' => KINDS2[b':' as usize],
-        b'$' => KINDS2[b'$' as usize],
+        b'+' => SIMPLE_STRING,
+        b'-' => SIMPLE_ERROR,
+        b':' => NUMBER,
+        b'$' => BLOB_STRING,
+        _ => 0,
+    }
+}
+
+// The same of a leaf's in RESP3.
+pub fn leaf_kind(b: u8) -> u8
+    ensures { λ r. ⌜ r ≡ leafKind resp3 b ⌝ }
+{
+    let k = lone_kind(b);
+    if k != 0 {
+        return k;
+    }
+    match b {
+        b'_' => NULL,
+        b'#' => BOOLEAN,
+        b',' => DOUBLE,
+        b'(' => BIG_NUMBER,
+        b'!' => BLOB_ERROR,
+        b'=' => VERBATIM,
+        b';' => CHUNKED_STRING,
+        b'.' => END_STREAM,
         _ => 0,
     }
 }

@@ -4,9 +4,8 @@ use mathlib.Core.List.{List}
 use mathlib.Core.Bool.{Bool, true, false}
 use mathlib.Core.Option.{Option, none, some}
 use Prim.Native.Nat.{ℕ, _+_, _-_, _<_}
-use Prim.Native.Char.{code}
 use native.Mathlib.Omega.{arith}
-use lib.ListN.{length, take, drop, getD}
+use lib.ListN.{length, take, drop}
 use lib.Seq.{length-take-le}
 use Rattle.meaning.specs.Choice.{pick}
 use Rattle.meaning.specs.Demand.{lineLen, serves, line}
@@ -15,10 +14,9 @@ use Rattle.meaning.specs.Kinds.{Profile, Number, Null, Marker}
 use Rattle.meaning.specs.Frames.{Step, leaf, textLineP, numberP, takesPlain, bulkP}
 use Rattle.meaning.specs.RunLaws.{bytes-there, bytes-short}
 use Rattle.text.specs.Moves.{ruledOf}
-use Rattle.text.specs.Numbers.{lengthLine, numberLine, minusWord, ShortLine}
+use Rattle.text.specs.Numbers.{lengthLine, numberLine, minusWord, ShortLine, MinusLine}
 use Rattle.text.specs.declared.Cursor.{Cursor}
 use Rattle.text.specs.declared.Ruled.{Ruled}
-use Rattle.text.specs.declared.Ruled.the-variants as Ruled
 use Rattle.text.specs.declared.number.LengthLine.{LengthLine}
 use Rattle.text.specs.declared.number.LengthLine.the-variants as LengthLine
 use Rattle.text.specs.declared.number.NumberLine.{NumberLine}
@@ -27,16 +25,11 @@ use Rattle.text.proofs.Lines.{line-size}
 use Rattle.text.proofs.Moves.{SkippedTo}
 use Rattle.text.proofs.Short.{short-length-line, short-number-line, short-minus-line}
 use Rattle.text.proofs.Runs.{lineRun, line-runs, lengthRun, length-runs, numberRun, number-runs}
-use Rattle.leaf.specs.Leaves.{ofNumber, outLeaf, Reads, ofLength, countedOut, Counts}
-use Rattle.leaf.specs.declared.Leaf.{Leaf}
+use Rattle.leaf.specs.Leaves.{ofRuled, ofNumber, outLeaf, Reads, ofLength, countedOut, Counts}
 use Rattle.leaf.specs.declared.Leaf.the-variants.{Row, Refused, Unfinished}
 use Rattle.leaf.specs.declared.Counted.the-variants.{Count, Not}
 
 -- ---- what the text says is what the leaf gives
-
-abbrev pub ofRuled : ℕ → Ruled → Leaf
-ofRuled k (Ruled.Text from end c) = Row k from end 0 c
-ofRuled k Ruled.More = Unfinished
 
 module _ (s : List ℕ) (at : ℕ) where
   pub text-reads : (k : ℕ) (x : Ruled) → x ≡ ruledOf at (serves line (drop at s)) → (π : Profile) → Reads (textLineP π k) s at (ofRuled k x)
@@ -108,6 +101,6 @@ module _ {most : ℕ} (s : List ℕ) (at v : ℕ) (c : Cursor) (w : ShortLine mo
   short-count three k = length-counts s at three k (LengthLine.Count v c) (short-length-line s at v c w (takesPlain k) three)
 
 -- and behind a minus it is a Number
-module _ {most : ℕ} (s : List ℕ) (at v : ℕ) (c : Cursor) (w : ShortLine most s (at + 1) v (c .at)) (h : at < length s) (minus : getD s at 0 ≡ code "-") where
+module _ (s : List ℕ) (at v : ℕ) (c : Cursor) (w : MinusLine s at v (c .at)) where
   pub short-minus : (π : Profile) → Reads (numberP π) s at (Row Number (minusWord v) 0 0 c)
-  short-minus = number-reads s at (NumberLine.Value (minusWord v) c) (short-minus-line s at v c w h minus)
+  short-minus = number-reads s at (NumberLine.Value (minusWord v) c) (short-minus-line s at v c w)

@@ -11,6 +11,8 @@ use Rattle.meaning.specs.ProgLaws.{Bounded, bounded}
 use Rattle.meaning.specs.Kinds.{Profile, Number, Null, Marker}
 use Rattle.meaning.specs.Frames.{Step, leaf, lengthP}
 use Rattle.text.specs.declared.Cursor.{Cursor}
+use Rattle.text.specs.declared.Ruled.{Ruled}
+use Rattle.text.specs.declared.Ruled.the-variants as Ruled
 use Rattle.text.specs.declared.number.LengthLine.{LengthLine}
 use Rattle.text.specs.declared.number.LengthLine.the-variants as LengthLine
 use Rattle.text.specs.declared.number.NumberLine.{NumberLine}
@@ -19,8 +21,14 @@ use Rattle.leaf.specs.declared.Leaf.{Leaf}
 use Rattle.leaf.specs.declared.Leaf.the-variants.{Row, Refused, Unfinished}
 use Rattle.leaf.specs.declared.Counted.{Counted}
 use Rattle.leaf.specs.declared.Counted.the-variants.{Count, Not}
+use Rattle.leaf.specs.declared.Near.{Near}
+use Rattle.leaf.specs.declared.Near.the-variants as Near
 
 -- ---- leaves
+
+abbrev pub ofRuled : ℕ → Ruled → Leaf
+ofRuled k (Ruled.Text from end c) = Row k from end 0 c
+ofRuled k Ruled.More = Unfinished
 
 abbrev pub ofNumber : NumberLine → Leaf
 ofNumber (NumberLine.Value v c) = Row Number v 0 0 c
@@ -53,6 +61,11 @@ same-leaf Unfinished Unfinished h = refl
 -- Any two answers that the promise allows are equal.
 pub one-leaf : (p : Prog Step) (s : List ℕ) (at : ℕ) (r q : Leaf) → Reads p s at r → Reads p s at q → r ≡ q
 one-leaf p s at r q a b = same-leaf r q (sym (a .means 0 0) ∙ b .means 0 0)
+
+-- what p gives at a place of s, or nothing
+abbrev pub Nears : Prog Step → List ℕ → ℕ → Near → Type 0
+Nears p s at (Near.Leaf l) = Reads p s at l
+Nears p s at Near.Far = Unit {0}
 
 -- ---- lengths
 

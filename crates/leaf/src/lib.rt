@@ -1,15 +1,17 @@
 // The frames without children that both protocols have, read through the cursor: one line of text, a Number, a bulk text; and the length that a bulk text or a frame with children begins with.
 use text::Cursor;
+use text::NearLine;
 use text::Ruled;
 use text::Skipped;
 use text::number::LengthLine;
 use text::number::NumberLine;
+use text::number::Short;
 ghost use mathlib.Core.Path.{_≡_};
 ghost use Prim.Native.Nat.{_≤_};
 ghost use lib.ListN.{length};
 ghost use Rattle.meaning.specs.Kinds.{Profile};
-ghost use Rattle.meaning.specs.Frames.{textLineP, numberP, takesPlain, bulkP};
-ghost use Rattle.leaf.specs.Leaves.{Reads, Counts, ofNumber, ofLength};
+ghost use Rattle.meaning.specs.Frames.{textLineP, numberP, takesPlain, lengthP, bulkP};
+ghost use Rattle.leaf.specs.Leaves.{Reads, Counts, Nears, ofRuled, ofNumber, ofLength};
 
 // The kinds that are named here, as a row's word 0 has them.
 const NUMBER: u64 = kinds::NUMBER as u64;
@@ -42,15 +44,21 @@ pub enum Counted {
     Not(Leaf),
 }
 
+fn as_text(kind: u64, line: Ruled) -> Leaf
+    ensures { λ r. ⌜ r ≡ ofRuled kind line ⌝ }
+{
+    match line {
+        Ruled::Text(from, end, next) => Leaf::Row(kind, from as u64, end as u64, 0, next),
+        Ruled::More => Leaf::Unfinished,
+    }
+}
+
 // A line's text, of any kind.
 pub fn text_line(s: &[u8], kind: u64, c: Cursor) -> Leaf
     requires { ⌜ c .at ≤ length (now s) ⌝ }
     ensures { λ r. ⌜ ((π : Profile) → Reads (textLineP π kind) (now (s .entry)) (c .at) r) ⌝ }
 {
-    match c.line(s) {
-        Ruled::Text(from, end, next) => Leaf::Row(kind, from as u64, end as u64, 0, next),
-        Ruled::More => Leaf::Unfinished,
-    }
+    as_text(kind, c.line(s))
 }
 
 // ---- Numbers
@@ -141,5 +149,51 @@ pub fn bulk(s: &[u8], kind: u64, c: Cursor, n: u64) -> Leaf
             Skipped::More => Leaf::Unfinished,
         },
         Skipped::More => Leaf::Unfinished,
+    }
+}
+
+// ---- near leaves: what a call reads without another call whose one frame is a short leaf
+
+pub enum Near {
+    Leaf(Leaf),
+    // nothing is said
+    Far,
+}
+
+// A short line's text, of any kind.
+pub fn near_text(s: &[u8], kind: u64, c: Cursor) -> Near
+    requires { ⌜ c .at ≤ length (now s) ⌝ }
+    ensures { λ r. ⌜ ((π : Profile) → Nears (textLineP π kind) (now (s .entry)) (c .at) r) ⌝ }
+{
+    match c.near_line(s) {
+        NearLine::Ruled(line) => Near::Leaf(as_text(kind, line)),
+        NearLine::Far => Near::Far,
+    }
+}
+
+// A Number of at most 18 digits, with a minus or not.
+pub fn near_number(s: &[u8], c: Cursor) -> Near
+    requires { ⌜ c .at ≤ length (now s) ⌝ }
+    ensures { λ r. ⌜ ((π : Profile) → Nears (numberP π) (now (s .entry)) (c .at) r) ⌝ }
+{
+    match text::number::short_digits(s, c) {
+        Short::Got(v, next) => Near::Leaf(Leaf::Row(NUMBER, v, 0, 0, next)),
+        Short::No => match text::number::short_minus(s, c) {
+            Short::Got(v, next) => {
+                Near::Leaf(Leaf::Row(NUMBER, text::number::minus_word(v), 0, 0, next))
+            }
+            Short::No => Near::Far,
+        },
+    }
+}
+
+// A bulk text behind a length of at most 18 digits.
+pub fn near_bulk(s: &[u8], kind: u64, c: Cursor) -> Near
+    requires { ⌜ c .at ≤ length (now s) ⌝ }
+    ensures { λ r. ⌜ ((π : Profile) → Nears (lengthP π kind (bulkP π kind)) (now (s .entry)) (c .at) r) ⌝ }
+{
+    match text::number::short_digits(s, c) {
+        Short::Got(n, next) => Near::Leaf(bulk(s, kind, next, n)),
+        Short::No => Near::Far,
     }
 }

@@ -21,11 +21,12 @@ use Rattle.leaf.specs.Leaves.{Reads, Counts}
 use Rattle.leaf.specs.declared.Leaf.{Leaf}
 use Rattle.leaf.specs.declared.Counted.the-variants as Counted
 use Rattle.text.specs.declared.Cursor.{Cursor}
+use Rattle.text.proofs.Moves.{TakenTo}
 use Rattle.walk.specs.Walks.{Placed}
 use Rattle.walk.specs.Tops.{Laid}
 use Rattle.walk.specs.declared.Walk.{Walk}
 use Rattle.walk.specs.declared.Walk.the-variants as Walk
-use Rattle.walk.proofs.Top.{laid, leaf-laid}
+use Rattle.walk.proofs.Top.{laid, leaf-laid, taken-place}
 use Rattle.resp2.specs.Heads.{leafP}
 use Rattle.resp2.specs.Tops.{arrayOut, topP}
 use Rattle.resp2.proofs.Steps.{frame-0, frame-no-room}
@@ -93,13 +94,15 @@ module _ (d : ℕ) (s : List ℕ) (lim at : ℕ) where
       no-byte t h =
           laid unfinished (typed ∙ ap (λ (o : Out Step). then o (λ st n u. run (restP (frameP resp2 (d - 1)) 0 st) s lim n u)) (type-short s lim at 1 resp2 (headP resp2) h)) refl refl
 
-      pub a-frame : {k : ℕ} {t₀ t₁ : List ℕ} {w : Walk} → at < length s → k ≡ kindOf resp2 (getD s at 0) → Laid (run (topP (d - 1) k) s lim (at + 1) 1) t₀ t₁ w
+      pub a-frame : {b : ℕ} {c : Cursor} {t₀ t₁ : List ℕ} {w : Walk} → TakenTo s at b c → Laid (run (topP (d - 1) (kindOf resp2 b)) s lim (c .at) 1) t₀ t₁ w
           → Laid (run (decodeP resp2 d) s lim at 0) t₀ t₁ w
-      a-frame {k} h e l = laid (run (topP (d - 1) k) s lim (at + 1) 1) (typed ∙ there) (l .says) (l .leaves)
+      a-frame {b} {c} h l = laid (run (topP (d - 1) (kindOf resp2 b)) s lim (c .at) 1) (typed ∙ there (kindOf resp2 b) (ap (kindOf resp2) (h .byte))) (l .says) (l .leaves)
         where
-          there : then (run (typeP resp2 (headP resp2)) s lim at 1) (λ st n u. run (restP (frameP resp2 (d - 1)) 0 st) s lim n u) ≡ run (topP (d - 1) k) s lim (at + 1) 1
-          there =
+          there : (k : ℕ) → k ≡ kindOf resp2 (getD s at 0)
+              → then (run (typeP resp2 (headP resp2)) s lim at 1) (λ st n u. run (restP (frameP resp2 (d - 1)) 0 st) s lim n u) ≡ run (topP (d - 1) k) s lim (c .at) 1
+          there k e =
               ap (λ (o : Out Step). then o (λ st n u. run (restP (frameP resp2 (d - 1)) 0 st) s lim n u))
-              (type-there s lim at 1 resp2 (headP resp2) h
+              (type-there s lim at 1 resp2 (headP resp2) (h .there)
               ∙ ap (λ (p : Prog Step). run p s lim (at + 1) 1) (by-top (getD s at 0) ∙ ap (λ (j : ℕ). pick (eqb j Array) (holderP resp2 Array) (leafP j)) (sym e)))
               ∙ sym (run-bind (pick (eqb k Array) (holderP resp2 Array) (leafP k)) (restP (frameP resp2 (d - 1)) 0) s lim (at + 1) 1)
+              ∙ ap (λ (n : ℕ). run (topP (d - 1) k) s lim n 1) (sym (taken-place h))

@@ -69,6 +69,6 @@ fn frame(
         Head::Row(k, a, b, w, next) => walk::leaf_row(t, used, 0, Leaf::Row(k, a, b, w, next)),
         Head::Refused(k, p) => Walk::Refused(k, p),
         Head::Unfinished => Walk::Unfinished,
-        Head::Holder(n, next) => array(s, t, kinds, lim, next, used + 1, depth - 1, n),
+        Head::Holder(n, next) => array(&s[..], t, kinds, lim, next, used + 1, depth - 1, n),
     }
 }

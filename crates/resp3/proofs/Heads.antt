@@ -122,16 +122,16 @@ module _ (s : List ℕ) (at k : ℕ) (low : k < Array) {l : Leaf} where
 -- ---- near leaves
 
 -- a line of text
-pub near-text : (s : List ℕ) (at k : ℕ) {l : Leaf} → (eqb k SimpleString || eqb k SimpleError) ≡ true → Reads (textLineP resp3 k) s at l → (k < Array) × Reads (headP resp3 k) s at l
+pub near-text : (k : ℕ) → (eqb k SimpleString || eqb k SimpleError) ≡ true → (k < Array) × (headP resp3 k ≡ textLineP resp3 k)
 unfolding headP
-near-text s at k {l} e w = go (eqb k SimpleString) refl
+near-text k e = go (eqb k SimpleString) refl
   where
     Said : ℕ → Type 0
-    Said n = Reads (textLineP resp3 n) s at l → (n < Array) × Reads (headP resp3 n) s at l
+    Said n = (n < Array) × (headP resp3 n ≡ textLineP resp3 n)
 
-    go : (b : Bool) → eqb k SimpleString ≡ b → (k < Array) × Reads (headP resp3 k) s at l
-    go true h = subst Said (sym (eqb-true k SimpleString h)) (λ v. (omega arith, v)) w
-    go false h = let f : eqb k SimpleError ≡ true = rw h at e in subst Said (sym (eqb-true k SimpleError f)) (λ v. (omega arith, v)) w
+    go : (b : Bool) → eqb k SimpleString ≡ b → (k < Array) × (headP resp3 k ≡ textLineP resp3 k)
+    go true h = subst Said (sym (eqb-true k SimpleString h)) (omega arith, refl)
+    go false h = let f : eqb k SimpleError ≡ true = rw h at e in subst Said (sym (eqb-true k SimpleError f)) (omega arith, refl)
 
 -- no digits, and no text of another kind
 pub near-line : (k : ℕ) → k ≤ Null → (k ≡ Number → ⊥) → headP resp3 k ≡ plainP k

@@ -19,6 +19,7 @@ use Rattle.meaning.specs.Frames.{Step, leaf, holder, bulkP, verbatimP, chunkP, 
 use Rattle.meaning.specs.FramesLaws.{attribute-fills, body-fills, frame-fills}
 use Rattle.meaning.specs.RunLaws.{decode-run, leaf-run}
 use Rattle.text.specs.declared.Cursor.{Cursor}
+use Rattle.text.proofs.Moves.{TakenTo}
 use Rattle.leaf.specs.Leaves.{outLeaf, Reads}
 use Rattle.leaf.specs.declared.Leaf.{Leaf}
 use Rattle.leaf.specs.declared.Leaf.the-variants as Leaf
@@ -26,7 +27,7 @@ use Rattle.walk.specs.Walks.{walkOf, Wrote, Walks, Placed}
 use Rattle.walk.specs.Tops.{Laid}
 use Rattle.walk.specs.declared.Walk.{Walk}
 use Rattle.walk.specs.declared.Walk.the-variants as Walk
-use Rattle.walk.proofs.Top.{laid, leaf-laid}
+use Rattle.walk.proofs.Top.{laid, leaf-laid, taken-place}
 use Rattle.resp3.specs.Tops.{mode, typedP, judgedP, callP, judgedW, unmarkedL}
 use Rattle.resp3.proofs.Steps.{frame-0, frame-no-room, frame-more, frame-typed}
 
@@ -184,8 +185,12 @@ module _ (c : Bool) (d : ℕ) (s : List ℕ) (lim at : ℕ) where
       pub no-byte : (t : List ℕ) → length s ≤ at → Laid (run (decodeP (mode c) d) s lim at 0) t t Walk.Unfinished
       no-byte t h = laid unfinished (called ∙ ap (judged c) (frame-more s lim at 0 d some one h)) refl refl
 
-      pub a-call : {k : ℕ} {t₀ t₁ : List ℕ} {w : Walk} → at < length s → k ≡ kindOf resp3 (getD s at 0) → Laid (run (callP c (d - 1) k) s lim (at + 1) 1) t₀ t₁ w
+      pub a-call : {b : ℕ} {cur : Cursor} {t₀ t₁ : List ℕ} {w : Walk} → TakenTo s at b cur → Laid (run (callP c (d - 1) (kindOf resp3 b)) s lim (cur .at) 1) t₀ t₁ w
           → Laid (run (decodeP (mode c) d) s lim at 0) t₀ t₁ w
-      a-call {k} there e l =
-          laid (run (callP c (d - 1) k) s lim (at + 1) 1)
-          (called ∙ ap (judged c) (frame-typed s lim at 0 d some one there e) ∙ sym (judged-run c s lim (typedP (d - 1) k) (at + 1) 1)) (l .says) (l .leaves)
+      a-call {b} {cur} h l =
+          let k = kindOf resp3 b in
+          laid (run (callP c (d - 1) k) s lim (cur .at) 1)
+          (called
+          ∙ ap (judged c) (frame-typed s lim at 0 d some one (h .there) (ap (kindOf resp3) (h .byte)))
+          ∙ sym (judged-run c s lim (typedP (d - 1) k) (at + 1) 1)
+          ∙ ap (λ (n : ℕ). run (callP c (d - 1) k) s lim n 1) (sym (taken-place h))) (l .says) (l .leaves)

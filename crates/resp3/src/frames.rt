@@ -52,8 +52,8 @@ fn key_fits(columns: &[[u8; 3]; 23], judged: bool, kind: u64) -> bool
     }
 }
 
-// The same answer, made again of its parts. What a call gives stands in memory: behind this the loop over frames has it in registers, as it has a near leaf's.
-fn anew(w: Walk) -> Walk
+// The same answer, made again of its parts. What a call gives stands in memory: behind this the loop over frames, or the top of a call, has it in registers, as it has a near leaf's.
+pub fn anew(w: Walk) -> Walk
     ensures { λ r. ⌜ r ≡ w ⌝ }
 {
     match w {

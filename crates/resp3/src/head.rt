@@ -7,9 +7,9 @@ use text::number::Short;
 ghost use mathlib.Core.Path.{_≡_};
 ghost use Prim.Native.Nat.{_≤_, _<_};
 ghost use lib.ListN.{length};
-ghost use Rattle.meaning.specs.Kinds.{resp3, Number, BlobString, Array, Attribute};
+ghost use Rattle.meaning.specs.Kinds.{resp3, Number, Array, Attribute};
 ghost use Rattle.meaning.specs.Frames.{lengthP, headP};
-ghost use Rattle.leaf.specs.Leaves.{Reads};
+ghost use Rattle.leaf.specs.Leaves.{Reads, Nears as LeafNears};
 ghost use Rattle.resp3.specs.Heads.{Heads, textP, plainP, onDigits, Nears};
 
 pub enum Head {
@@ -58,13 +58,13 @@ pub fn plain_head(s: &[u8], k: u8, c: Cursor) -> Leaf
     ensures { λ r. ⌜ Reads (plainP k) (now (s .entry)) (c .at) r ⌝ }
 {
     match k {
-        kinds::SIMPLE_STRING => leaf::text_line(s, k as u64, c),
-        kinds::SIMPLE_ERROR => leaf::text_line(s, k as u64, c),
-        kinds::BIG_NUMBER => leaf::text_line(s, k as u64, c),
-        kinds::DOUBLE => leaf3::double(s, c),
-        kinds::BOOLEAN => leaf3::boolean(s, c),
-        kinds::NULL => leaf3::blank(s, k as u64, c),
-        kinds::END_STREAM => leaf3::blank(s, k as u64, c),
+        kinds::SIMPLE_STRING => leaf::text_line(&s[..], k as u64, c),
+        kinds::SIMPLE_ERROR => leaf::text_line(&s[..], k as u64, c),
+        kinds::BIG_NUMBER => leaf::text_line(&s[..], k as u64, c),
+        kinds::DOUBLE => leaf3::double(&s[..], c),
+        kinds::BOOLEAN => leaf3::boolean(&s[..], c),
+        kinds::NULL => leaf3::blank(&s[..], k as u64, c),
+        kinds::END_STREAM => leaf3::blank(&s[..], k as u64, c),
         _ => {
             let at = c.at;
             Leaf::Refused(1, at)
@@ -78,12 +78,12 @@ fn any_leaf(s: &[u8], k: u8, c: Cursor) -> Leaf
     ensures { λ r. ⌜ Reads (headP resp3 k) (now (s .entry)) (c .at) r ⌝ }
 {
     if k == kinds::NUMBER {
-        return leaf::number(s, c);
+        return leaf::number(&s[..], c);
     }
     if on_digits(k) {
-        return sized(s, k, c);
+        return sized(&s[..], k, c);
     }
-    plain_head(s, k, c)
+    again(plain_head(&s[..], k, c))
 }
 
 // The same leaf, made again of its parts: what a call gave in memory is then in registers.
@@ -193,24 +193,16 @@ fn near_number(s: &[u8], c: Cursor) -> Near
     }
 }
 
-// A blob string whose length is a short line.
-fn near_blob(s: &[u8], c: Cursor) -> Near
-    requires { ⌜ c .at ≤ length (now s) ⌝ }
-    ensures { λ r. ⌜ Nears BlobString (now (s .entry)) (c .at) r ⌝ }
-{
-    match text::number::short_digits(s, c) {
-        Short::Got(n, next) => Near::Leaf(leaf::bulk(s, kinds::BLOB_STRING as u64, next, n)),
-        Short::No => Near::Far,
-    }
-}
-
 // A frame of kind k, behind its type byte.
 pub fn near_leaf(s: &[u8], k: u8, c: Cursor) -> Near
     requires { ⌜ c .at ≤ length (now s) ⌝ }
     ensures { λ r. ⌜ Nears k (now (s .entry)) (c .at) r ⌝ }
 {
     if k == kinds::BLOB_STRING {
-        return near_blob(s, c);
+        return match leaf::near_bulk(s, k as u64, c) {
+            leaf::Near::Leaf(l) => Near::Leaf(l),
+            leaf::Near::Far => Near::Far,
+        };
     }
     if k == kinds::NUMBER {
         return near_number(s, c);
@@ -226,37 +218,30 @@ pub fn near_leaf(s: &[u8], k: u8, c: Cursor) -> Near
 
 // ---- what a call reads itself whose top frame is a leaf
 
-fn blob(s: &[u8], c: Cursor) -> Leaf
-    requires { ⌜ c .at ≤ length (now s) ⌝ }
-    ensures { λ r. ⌜ Reads (headP resp3 BlobString) (now (s .entry)) (c .at) r ⌝ }
-{
-    match leaf::length_head(s, true, kinds::BLOB_STRING as u64, c) {
-        Counted::Count(n, next) => leaf::bulk(s, kinds::BLOB_STRING as u64, next, n),
-        Counted::Not(l) => l,
-    }
-}
-
 // A frame of kind k that has no children, behind its type byte, by a call.
 pub fn called_leaf(s: &[u8], k: u8, c: Cursor) -> Leaf
     requires { ⌜ (c .at ≤ length (now s)) × (k < Array) ⌝ }
     ensures { λ r. ⌜ Reads (headP resp3 k) (now (s .entry)) (c .at) r ⌝ }
 {
-    again(any_leaf(s, k, c))
+    if on_digits(k) {
+        return again(any_leaf(&s[..], k, c));
+    }
+    again(plain_head(&s[..], k, c))
 }
 
-// The same, the common kinds here.
-pub fn leaf_head(s: &[u8], k: u8, c: Cursor) -> Leaf
-    requires { ⌜ (c .at ≤ length (now s)) × (k < Array) ⌝ }
-    ensures { λ r. ⌜ Reads (headP resp3 k) (now (s .entry)) (c .at) r ⌝ }
+// The same of the common kinds, where it is near.
+pub fn lone_leaf(s: &[u8], k: u8, c: Cursor) -> leaf::Near
+    requires { ⌜ c .at ≤ length (now s) ⌝ }
+    ensures { λ r. ⌜ LeafNears (headP resp3 k) (now (s .entry)) (c .at) r ⌝ }
 {
     if k == kinds::BLOB_STRING {
-        return blob(s, c);
+        return leaf::near_bulk(s, k as u64, c);
     }
     if k == kinds::NUMBER {
-        return leaf::number(s, c);
+        return leaf::near_number(s, c);
     }
     if (k == kinds::SIMPLE_STRING) | (k == kinds::SIMPLE_ERROR) {
-        return leaf::text_line(s, k as u64, c);
+        return leaf::near_text(s, k as u64, c);
     }
-    called_leaf(s, k, c)
+    leaf::Near::Far
 }

@@ -5,6 +5,7 @@ mod head;
 
 use answers::Answer;
 use leaf::Leaf;
+use leaf::Near;
 use text::Cursor;
 use text::Taken;
 use walk::Walk;
@@ -83,7 +84,7 @@ fn twice(
     }
 }
 
-// In how many rows a frame is tried, by its first bytes: few, where it has a count of one digit; more, where besides an array stands at the front of what it counts; else none.
+// In how many rows a frame is tried, by its first bytes: few, where it counts few; more, where its count has one digit or an array stands at the front of what it counts; else none.
 fn rows_to_try(s: &[u8], k: u8, c: Cursor) -> usize
     requires { ⌜ c .at ≤ length (now s) ⌝ }
 {
@@ -91,11 +92,11 @@ fn rows_to_try(s: &[u8], k: u8, c: Cursor) -> usize
     if s.len() - at < 4 {
         return 0;
     }
-    let most = if frames::in_pairs(k) { b'2' } else { b'5' };
-    if (most < s[at]) | (s[at + 1] != b'\r') {
+    if (b'9' < s[at]) | (s[at + 1] != b'\r') {
         return 0;
     }
-    if s[at + 3] == b'*' {
+    let most = if frames::in_pairs(k) { b'2' } else { b'5' };
+    if (most < s[at]) | (s[at + 3] == b'*') {
         rows::NESTED
     } else {
         rows::FEW
@@ -134,7 +135,7 @@ fn few(
     Walk::Refused(11, at)
 }
 
-// A frame with children, or HELLO.
+// A top frame of kind k, behind its type byte.
 fn fill(
     s: &[u8],
     t: &mut [u64],
@@ -178,47 +179,19 @@ fn unmarked(complete: bool, l: Leaf) -> Leaf
     }
 }
 
-// A top frame of kind k, behind its type byte.
-fn top(
-    s: &[u8],
-    t: &mut [u64],
-    kinds: &[u8; 256],
-    columns: &[[u8; 3]; 23],
-    lim: usize,
-    k: u8,
-    c: Cursor,
-    depth: usize,
-    complete: bool,
-) -> Walk
-    requires { ⌜ Ready resp3 (now s) (now kinds) (now t) lim (c .at) × IsColumns (now columns) ⌝ }
-    ensures { λ r. ⌜ Laid (run (callP complete depth k) (now (s .entry)) lim (c .at) 1) (now (t .entry)) (now (t .exit)) r ⌝ }
+// A top frame, behind its type byte b, with `depth` left for frames beneath it: any leaf, which needs no table of kinds, or what the tables say.
+fn any(s: &[u8], t: &mut [u64], b: u8, c: Cursor, depth: usize, complete: bool) -> Walk
+    requires { ⌜ (c .at ≤ length (now s)) × (0 < rowsIn (length (now t))) ⌝ }
+    ensures { λ r. ⌜ Laid (run (callP complete depth (kindOf resp3 b)) (now (s .entry)) (rowsIn (length (now (t .entry)))) (c .at) 1) (now (t .entry)) (now (t .exit)) r ⌝ }
 {
-    if k < kinds::ARRAY {
-        return walk::leaf_row(t, 0, 0, unmarked(complete, head::called_leaf(s, k, c)));
-    }
-    fill(s, t, kinds, columns, lim, k, c, depth, complete)
-}
-
-// A top frame, behind its type byte b, with `depth` left for frames beneath it. The common leaves need no table of kinds.
-fn typed(
-    s: &[u8],
-    t: &mut [u64],
-    lim: usize,
-    b: u8,
-    c: Cursor,
-    depth: usize,
-    complete: bool,
-) -> Walk
-    requires { ⌜ (c .at ≤ length (now s)) × (lim ≡ rowsIn (length (now t))) × (0 < lim) ⌝ }
-    ensures { λ r. ⌜ Laid (run (callP complete depth (kindOf resp3 b)) (now (s .entry)) lim (c .at) 1) (now (t .entry)) (now (t .exit)) r ⌝ }
-{
-    let k = kinds::lone_kind(b);
+    let k = kinds::leaf_kind(b);
     if k != 0 {
-        return walk::leaf_row(t, 0, 0, unmarked(complete, head::leaf_head(s, k, c)));
+        return walk::leaf_row(t, 0, 0, unmarked(complete, head::called_leaf(s, k, c)));
     }
     let kinds = kinds::all3();
     let columns = kinds::all_columns();
-    top(
+    let lim = rows::rows_of(t.len());
+    fill(
         s,
         t,
         &kinds,
@@ -231,19 +204,39 @@ fn typed(
     )
 }
 
-// One frame from a place of s on, its rows in t, with at most `depth` frames in one another. An unfinished or refused decode leaves t as it was.
+// The same: a near leaf is read here, without the stack that the rest takes. Called from two places, `any` is a call of its own; s is handed over by its parts, so that it stands in registers.
+fn typed(s: &[u8], t: &mut [u64], b: u8, c: Cursor, depth: usize, complete: bool) -> Walk
+    requires { ⌜ (c .at ≤ length (now s)) × (0 < rowsIn (length (now t))) ⌝ }
+    ensures { λ r. ⌜ Laid (run (callP complete depth (kindOf resp3 b)) (now (s .entry)) (rowsIn (length (now (t .entry)))) (c .at) 1) (now (t .entry)) (now (t .exit)) r ⌝ }
+{
+    let k = kinds::lone_kind(b);
+    if k == 0 {
+        return frames::anew(any(&s[..], t, b, c, depth, complete));
+    }
+    match head::lone_leaf(&s[..], k, c) {
+        Near::Leaf(l) => walk::leaf_row(t, 0, 0, unmarked(complete, l)),
+        Near::Far => frames::anew(any(&s[..], t, b, c, depth, complete)),
+    }
+}
+
+// One frame from a place of s on, its rows in t, with at most `depth` frames in one another. An unfinished or refused decode leaves t as it was. `typed` is called from two places, so that this, which is short, is compiled into the exported calls.
 pub fn decode_at(s: &[u8], at: usize, t: &mut [u64], depth: usize, complete: bool) -> Answer
     ensures { λ r. ⌜ Decoded (mode complete) depth (now (s .entry)) at (now (t .entry)) (now (t .exit)) r ⌝ }
 {
     if depth == 0 {
         return Answer::Refused(10);
     }
-    let lim = rows::rows_of(t.len());
-    if lim == 0 {
+    if rows::rows_of(t.len()) == 0 {
         return Answer::Refused(11);
     }
-    match (Cursor { at }).byte(s) {
-        Taken::Byte(b, next) => { walk::answer(at, typed(s, t, lim, b, next, depth - 1, complete)) }
+    match (Cursor { at }).byte(&s[..]) {
+        Taken::Byte(b, next) => {
+            if complete {
+                walk::answer(at, typed(&s[..], t, b, next, depth - 1, true))
+            } else {
+                walk::answer(at, typed(&s[..], t, b, next, depth - 1, false))
+            }
+        }
         Taken::More => Answer::Unfinished,
     }
 }

@@ -14,7 +14,7 @@ use borrow.Author.Tests.{eq-eqb, ne-eqb, leb-true, leb-false}
 use borrow.Author.Count.{below-more}
 use Rattle.meaning.specs.Choice.{pick}
 use Rattle.meaning.specs.Demand.{CR, LF, lineLen, up}
-use Rattle.text.specs.Lines.{foundOf, Clear}
+use Rattle.text.specs.Lines.{foundOf, Clear, First}
 use Rattle.text.specs.declared.scan.Found.the-variants.{Next, More}
 
 -- ---- one step
@@ -99,6 +99,9 @@ module _ {b : ℕ} (s : List ℕ) where
       let p : i ≤ j = v .up in
       let q : j ≤ k = w .up in
       record { up = omega arith; not = λ n p q. ⊎-elim (λ l. w .not n l q) (λ l. v .not n p l) (before j n) }
+
+  pub first-join : (i j to r : ℕ) → Clear b s i j → First b s j to r → First b s i to r
+  first-join i j to r v w = record { clear = clear-join i j r v (w .clear); within = w .within; there = w .there }
 
 -- ---- a line that was found
 

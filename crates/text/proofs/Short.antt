@@ -15,7 +15,7 @@ use Rattle.meaning.specs.Choice.{pick}
 use Rattle.meaning.specs.Demand.{CR, LF, lineLen}
 use Rattle.meaning.specs.Text.{digits, digitsFrom, plus, signed, count, plainLength, lengthOf, is, codes, same}
 use Rattle.text.specs.Lines.{Clear, foundOf}
-use Rattle.text.specs.Numbers.{capped, minusW, signedAs, wordS, minusWord, lengthText, lengthLine, lengthLineOf, numberSaid, numberLine, numberLineOf, ShortLine, ShortIn, ShortAt}
+use Rattle.text.specs.Numbers.{capped, minusW, signedAs, wordS, minusWord, lengthText, lengthLine, lengthLineOf, numberSaid, numberLine, numberLineOf, ShortLine, ShortIn, ShortAt, MinusLine, MinusAt}
 use Rattle.text.specs.declared.Cursor.{Cursor}
 use Rattle.text.specs.declared.scan.Found.the-variants as Found
 use Rattle.text.specs.declared.number.Worth.the-variants as Worth
@@ -197,27 +197,42 @@ module _ {most : ℕ} (s : List ℕ) (at v : ℕ) (c : Cursor) (w : ShortLine mo
       sym (ap (numberLineOf (drop at s) at) (w .ends) ∙ rw (w .to, short-signed v (w .small) (take (w .n - 2) (drop at s)) (w .worth)))
 
 -- a minus before it
-module _ {most : ℕ} (s : List ℕ) (at v : ℕ) (c : Cursor) (w : ShortLine most s (at + 1) v (c .at)) (h : at < length s) (minus : getD s at 0 ≡ code "-") where
+pub behind-minus : (s : List ℕ) (at : ℕ) (r : Short) → at < length s → getD s at 0 ≡ code "-" → ShortAt s (at + 1) r → MinusAt s at r
+behind-minus s at (Short.Got v c) h e w = record { there = h; sign = e; line = w }
+behind-minus s at Short.No h e w = λ v next m. w v next (m .line)
+
+module _ (s : List ℕ) (at v : ℕ) (c : Cursor) (w : MinusLine s at v (c .at)) where
+  abbrev short : ShortLine 18 s (at + 1) v (c .at)
+  short = w .line
+
+  -- the line is one byte longer
+  ends : (n : ℕ) × (lineLen (drop at s) ≡ some n) × (at + n ≡ c .at)
+  ends =
+      found-some at (c .at) (lineLen (drop at s))
+      (sym (no-cr s at (w .there) (λ e. omega (arith, w .sign)) ∙ ap (foundOf (at + 1)) (short .ends) ∙ ap Found.Next (short .to)))
+
+  abbrev text : List ℕ
+  text = take (ends .0 - 2) (drop at s)
+
+  signs : minusW (Worth.Value v) ≡ signedAs (signed text)
+  signs =
+      let next = c .at in
+      let two = line-size (drop (at + 1) s) (short .n) (short .ends) in
+      let a : next - 2 - at ≡ ends .0 - 2 = omega (arith, ends .2) in
+      let b : next - 2 - (at + 1) ≡ short .n - 2 = omega (arith, short .to) in
+      let small : v < 10 ^ 18 = short .small in
+      let value : capped (digits (take (next - 2 - (at + 1)) (drop (at + 1) s))) ≡ Worth.Value v = rw (b, short .worth, lt-ltb v (2 ^ 64) (omega arith)) in
+      ap minusW (sym value)
+      ∙ signed-minus s at (next - 2) (omega (arith, short .to, two .0)) (omega (arith, short .to, two .0, two .1, length-drop (at + 1) s)) (λ e. omega (arith, w .sign)) (w .sign)
+      ∙ ap (λ (n : ℕ). signedAs (signed (take n (drop at s)))) a
+
   pub short-minus-line : NumberLine.Value (minusWord v) c ≡ numberLine s at
   short-minus-line =
-      let next = c .at in
-      let two = line-size (drop (at + 1) s) (w .n) (w .ends) in
-      let found : Found.Next next ≡ foundOf at (lineLen (drop at s)) =
-      sym (no-cr s at h (λ e. omega (arith, minus)) ∙ ap (foundOf (at + 1)) (w .ends) ∙ ap Found.Next (w .to)) in
-      let k = found-some at next (lineLen (drop at s)) found in
-      let a : k .0 - 2 ≡ next - 2 - at = omega (arith, k .2) in
-      let b : next - 2 - (at + 1) ≡ w .n - 2 = omega (arith, w .to) in
-      let l = take (next - 2 - at) (drop at s) in
-      let small : v < 10 ^ 18 = w .small in
-      let value : capped (digits (take (next - 2 - (at + 1)) (drop (at + 1) s))) ≡ Worth.Value v = rw (b, w .worth, lt-ltb v (2 ^ 64) (omega arith)) in
-      let signs : minusW (Worth.Value v) ≡ signedAs (signed l) =
-      ap minusW (sym value)
-      ∙ signed-minus s at (next - 2) (omega (arith, w .to, two .0)) (omega (arith, w .to, two .0, two .1, length-drop (at + 1) s)) (λ e. omega (arith, minus)) minus in
       ap (numberSaid c) (word (eqb v 0) refl)
       ∙ ap (λ (x : Signed). numberSaid c (wordS x)) signs
-      ∙ ap (numberSaid c) (word-right l)
-      ∙ rw (k .1, k .2, a)
+      ∙ ap (numberSaid c) (word-right text)
+      ∙ rw (ends .1, ends .2)
     where
       word : (b : Bool) → eqb v 0 ≡ b → Word.Value (minusWord v) ≡ wordS (minusW (Worth.Value v))
       word true e = rw e
-      word false e = let small : v < 10 ^ 18 = w .small in rw (e, le-leb v (2 ^ 63) (omega arith)) (rw e)
+      word false e = let small : v < 10 ^ 18 = short .small in rw (e, le-leb v (2 ^ 63) (omega arith)) (rw e)

@@ -1,8 +1,10 @@
 -- Where a cursor moves to, by how many bytes serve what it waits for.
+use mathlib.Core.Path.{_≡_}
 use mathlib.Core.List.{List}
 use mathlib.Core.Option.{Option, none, some}
 use Prim.Native.Nat.{ℕ, _+_, _-_}
-use lib.ListN.{getD}
+use lib.ListN.{drop, getD}
+use Rattle.meaning.specs.Demand.{line, serves}
 use Rattle.text.specs.declared.Taken.{Taken}
 use Rattle.text.specs.declared.Taken.the-variants as Taken
 use Rattle.text.specs.declared.Taken.the-variants.{Byte}
@@ -12,6 +14,8 @@ use Rattle.text.specs.declared.Skipped.the-variants.{To}
 use Rattle.text.specs.declared.Ruled.{Ruled}
 use Rattle.text.specs.declared.Ruled.the-variants as Ruled
 use Rattle.text.specs.declared.Ruled.the-variants.{Text}
+use Rattle.text.specs.declared.NearLine.{NearLine}
+use Rattle.text.specs.declared.NearLine.the-variants as NearLine
 
 abbrev pub takenOf : List ℕ → ℕ → Option ℕ → Taken
 takenOf s at none = Taken.More
@@ -25,3 +29,8 @@ skippedOf at (some n) = To (record { at = at + n })
 abbrev pub ruledOf : ℕ → Option ℕ → Ruled
 ruledOf at none = Ruled.More
 ruledOf at (some n) = Text at (at + n - 2) (record { at = at + n })
+
+-- the line of s at a place, or nothing
+abbrev pub NearRuled : List ℕ → ℕ → NearLine → Type 0
+NearRuled s at (NearLine.Ruled r) = r ≡ ruledOf at (serves line (drop at s))
+NearRuled s at NearLine.Far = Unit {0}

@@ -6,7 +6,7 @@ use mathlib.Core.Option.{Option, none, some}
 use Prim.Native.Nat.{ℕ, _+_, _-_, _^_, _<_, _≤_}
 use Prim.Native.Char.{code}
 use native.Mathlib.Omega.{arith}
-use lib.ListN.{take, drop}
+use lib.ListN.{length, take, drop, getD}
 use lib.Dec.{eqb, leb, ltb}
 use Rattle.meaning.specs.Choice.{pick}
 use Rattle.meaning.specs.Demand.{lineLen}
@@ -136,6 +136,16 @@ ShortIn most s at Short.No = (v next : ℕ) → ShortLine most s at v next → �
 abbrev pub ShortAt : List ℕ → ℕ → Short → Type 0
 ShortAt = ShortIn 18
 
+-- at `at` stands a minus, and behind it such a line
+pub record MinusLine (s : List ℕ) (at v next : ℕ) : Type 0 where
+  pub there : at < length s
+  pub sign : getD s at 0 ≡ code "-"
+  pub line : ShortLine 18 s (at + 1) v next
+
+abbrev pub MinusAt : List ℕ → ℕ → Short → Type 0
+MinusAt s at (Short.Got v c) = MinusLine s at v (c .at)
+MinusAt s at Short.No = (v next : ℕ) → MinusLine s at v next → ⊥
+
 -- Any two answers that the promise allows are equal.
 pub one-short : (most : ℕ) (s : List ℕ) (at : ℕ) (r q : Short) → ShortIn most s at r → ShortIn most s at q → r ≡ q
 one-short most s at (Short.Got v c) (Short.Got w d) a b =
@@ -146,3 +156,9 @@ one-short most s at (Short.Got v c) (Short.Got w d) a b =
 one-short most s at (Short.Got v c) Short.No a b = absurd (b v (c .at) a)
 one-short most s at Short.No (Short.Got w d) a b = absurd (a w (d .at) b)
 one-short most s at Short.No Short.No a b = refl
+
+pub one-minus : (s : List ℕ) (at : ℕ) (r q : Short) → MinusAt s at r → MinusAt s at q → r ≡ q
+one-minus s at (Short.Got v c) (Short.Got w d) a b = one-short 18 s (at + 1) (Short.Got v c) (Short.Got w d) (a .line) (b .line)
+one-minus s at (Short.Got v c) Short.No a b = absurd (b v (c .at) a)
+one-minus s at Short.No (Short.Got w d) a b = absurd (a w (d .at) b)
+one-minus s at Short.No Short.No a b = refl

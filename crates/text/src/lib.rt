@@ -7,7 +7,7 @@ ghost use mathlib.Core.Path.{_≡_};
 ghost use Prim.Native.Nat.{_≤_};
 ghost use lib.ListN.{length, drop};
 ghost use Rattle.meaning.specs.Demand.{bytes, line, serves};
-ghost use Rattle.text.specs.Moves.{takenOf, skippedOf, ruledOf};
+ghost use Rattle.text.specs.Moves.{takenOf, skippedOf, ruledOf, NearRuled};
 
 // A place in a buffer.
 pub struct Cursor {
@@ -29,6 +29,12 @@ pub enum Skipped {
 pub enum Ruled {
     Text(usize, usize, Cursor),
     More,
+}
+
+// The same of a line whose end is near; of any other nothing is said.
+pub enum NearLine {
+    Ruled(Ruled),
+    Far,
 }
 
 impl Cursor {
@@ -70,5 +76,24 @@ impl Cursor {
             Found::Next(next) => Ruled::Text(at, next - 2, Cursor { at: next }),
             Found::More => Ruled::More,
         }
+    }
+
+    // The same, where `near_cr` tells. It has no call in it, so that what reads a short line has none.
+    pub fn near_line(self, s: &[u8]) -> NearLine
+        requires { ⌜ self .at ≤ length (now s) ⌝ }
+        ensures { λ r. ⌜ NearRuled (now (s .entry)) (self .at) r ⌝ }
+    {
+        let at = self.at;
+        let n = s.len();
+        let cr = scan::near_cr(s, at);
+        if n - cr < 2 {
+            return NearLine::Ruled(Ruled::More);
+        }
+        if s[cr] == b'\r' {
+            if s[cr + 1] == b'\n' {
+                return NearLine::Ruled(Ruled::Text(at, cr, Cursor { at: cr + 2 }));
+            }
+        }
+        NearLine::Far
     }
 }

@@ -6,7 +6,7 @@ ghost use mathlib.Core.Path.{_≡_};
 ghost use Prim.Native.Nat.{_+_, _-_, _≤_, _<_};
 ghost use lib.ListN.{length, take, drop};
 ghost use Rattle.meaning.specs.Text.{digits, signed, plainLength, signedLength};
-ghost use Rattle.text.specs.Numbers.{capped, plusW, minusW, lengthW, lengthS, wordS, minusWord, signedAs, lengthAs, wordAs, lengthText, lengthSaid, lengthLine, numberSaid, numberLine, DigitOf, ShortIn, ShortAt};
+ghost use Rattle.text.specs.Numbers.{capped, plusW, minusW, lengthW, lengthS, wordS, minusWord, signedAs, lengthAs, wordAs, lengthText, lengthSaid, lengthLine, numberSaid, numberLine, DigitOf, ShortIn, ShortAt, MinusAt};
 
 // What digits are worth.
 enum Worth {
@@ -288,6 +288,22 @@ pub fn short_digits(s: &[u8], c: Cursor) -> Short
     digits_line(s, c, at_most_18(left - 2))
 }
 
+// The same behind a minus.
+pub fn short_minus(s: &[u8], c: Cursor) -> Short
+    requires { ⌜ c .at ≤ length (now s) ⌝ }
+    ensures { λ r. ⌜ MinusAt (now (s .entry)) (c .at) r ⌝ }
+{
+    match c.byte(s) {
+        Taken::Byte(b, behind) => {
+            if b != b'-' {
+                return Short::No;
+            }
+            short_digits(s, behind)
+        }
+        Taken::More => Short::No,
+    }
+}
+
 // ---- a length's line
 
 fn length_said(n: Length, c: Cursor) -> LengthLine
@@ -361,17 +377,9 @@ pub fn minus_line(s: &[u8], c: Cursor) -> NumberLine
     requires { ⌜ c .at ≤ length (now s) ⌝ }
     ensures { λ r. ⌜ r ≡ numberLine (now (s .entry)) (c .at) ⌝ }
 {
-    match c.byte(s) {
-        Taken::Byte(b, behind) => {
-            if b != b'-' {
-                return number_scanned(s, c);
-            }
-            match short_digits(s, behind) {
-                Short::Got(v, next) => NumberLine::Value(minus_word(v), next),
-                Short::No => number_scanned(s, c),
-            }
-        }
-        Taken::More => NumberLine::More,
+    match short_minus(s, c) {
+        Short::Got(v, next) => NumberLine::Value(minus_word(v), next),
+        Short::No => number_scanned(s, c),
     }
 }
 

@@ -20,6 +20,7 @@ use Rattle.answers.specs.Answers.{answerOf, tableAfter, Decoded}
 use Rattle.answers.specs.declared.Answer.{Answer}
 use Rattle.answers.specs.declared.Answer.the-variants as Answer
 use Rattle.text.specs.declared.Cursor.{Cursor}
+use Rattle.text.proofs.Moves.{TakenTo}
 use Rattle.leaf.specs.Leaves.{outLeaf}
 use Rattle.leaf.specs.declared.Leaf.{Leaf}
 use Rattle.leaf.specs.declared.Leaf.the-variants as Leaf
@@ -47,13 +48,24 @@ leaf-laid q w s t₀ lim Leaf.Unfinished e counted one p = laid unfinished e (p 
 
 -- ---- where a walk ends
 
-pub behind : (p : Prog Forest) (s : List ℕ) (lim from at used : ℕ) {w : Walk} → from ≤ at → at ≤ length s → used ≤ lim → w ≡ walkOf (run p s lim at used) → Behind from w
+behind : (p : Prog Forest) (s : List ℕ) (lim from at used : ℕ) {w : Walk} → from ≤ at → at ≤ length s → used ≤ lim → w ≡ walkOf (run p s lim at used) → Behind from w
 behind p s lim from at used {w} h k l e = subst (Behind from) (sym e) (go (run p s lim at used) (bounded p s lim at used k l))
   where
     go : (o : Out Forest) → Bounded s lim at used o → Behind from (walkOf o)
     go (done f n u) b = omega (arith, b .from)
     go (refused j n) b = tt
     go unfinished b = tt
+
+-- behind a type byte
+module _ {s : List ℕ} {at b : ℕ} {c : Cursor} (w : TakenTo s at b c) where
+  pub taken-place : c .at ≡ at + 1
+  taken-place = ap (λ (x : Cursor). x .at) (w .to)
+
+  pub taken-within : c .at ≤ length s
+  taken-within = omega (arith, w .there, taken-place)
+
+  pub taken-behind : (p : Prog Forest) (lim : ℕ) {t₀ t₁ : List ℕ} {r : Walk} → 0 < lim → Laid (run p s lim (c .at) 1) t₀ t₁ r → Behind at r
+  taken-behind p lim one l = behind p s lim at (c .at) 1 (omega (arith, taken-place)) taken-within (omega arith) (l .says)
 
 -- ---- twice: first without a table
 

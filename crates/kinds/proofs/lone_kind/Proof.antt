@@ -3,33 +3,8 @@ use mathlib.Core.Path.{sym, ap}
 use Rattle.meaning.specs.Kinds.{lookup, kindOf}
 use Rattle.kinds.specs.Entries.{loneKind}
 use Rattle.kinds.specs.EntryLaws.{no-lone}
-use borrow.Author.Needs.{needs}
 use Rattle.kinds.proofs.lone_kind.Statement.{statement}
 use Rattle.kinds.proofs.lone_kind.Tie as tie
-
-cast-result : tie.Need-cast-result
-cast-result c = search needs
-
-array-read-result : tie.Need-array-read-result
-array-read-result c = search needs
-
-cast-result-2 : tie.Need-cast-result-2
-cast-result-2 c = search needs
-
-array-read-result-2 : tie.Need-array-read-result-2
-array-read-result-2 c = search needs
-
-cast-result-3 : tie.Need-cast-result-3
-cast-result-3 c = search needs
-
-array-read-result-3 : tie.Need-array-read-result-3
-array-read-result-3 c = search needs
-
-cast-result-4 : tie.Need-cast-result-4
-cast-result-4 c = search needs
-
-array-read-result-4 : tie.Need-array-read-result-4
-array-read-result-4 c = search needs
 
 returns : tie.Need-returns
 unfolding lookup kindOf
@@ -48,24 +23,7 @@ unfolding lookup kindOf
 returns-4 c = sym (ap loneKind (c .match .keys4))
 
 returns-5 : tie.Need-returns-5
-returns-5 c =
-    let r = c .match .rest in
-    sym (no-lone (c .before .args .b) (r .0 .0 .0 .1) (r .0 .0 .1) (r .0 .1) (r .1))
+returns-5 c = let r = c .match .rest in sym (no-lone (c .before .args .b) (r .0 .0 .0 .1) (r .0 .0 .1) (r .0 .1) (r .1))
 
 pub lone-kind-spec : {M : Type 1} → statement M
-lone-kind-spec =
-    tie.close
-    (tie.spec
-    cast-result
-    array-read-result
-    cast-result-2
-    array-read-result-2
-    cast-result-3
-    array-read-result-3
-    cast-result-4
-    array-read-result-4
-    returns
-    returns-2
-    returns-3
-    returns-4
-    returns-5)
+lone-kind-spec = tie.close (tie.spec returns returns-2 returns-3 returns-4 returns-5)

@@ -4,7 +4,7 @@ use Prim.Native.Nat.{ℕ}
 use native.Mathlib.Omega.{arith}
 use Rattle.meaning.specs.Prog.{run}
 use Rattle.meaning.specs.Kinds.{resp2, kindOf}
-use Rattle.kinds.specs.EntryLaws.{lone-low, lone-kind}
+use Rattle.kinds.specs.EntryLaws.{leaf-low, lone-kind}
 use Rattle.walk.specs.Tops.{Laid}
 use Rattle.resp2.specs.Heads.{leafP}
 use Rattle.resp2.specs.Tops.{topP}
@@ -34,7 +34,7 @@ returns c =
     let is : lone .result ≡ kindOf resp2 (e .args .b) = lone .ensures ∙ lone-kind resp2 (e .args .b) (λ z. if1 .taken (lone .ensures ∙ z)) in
     subst (λ (k : ℕ). Laid (run (topP (e .args .depth) k) (e .args .s .now) (e .args .lim) (e .args .c .at) 1) (e .args .t .now) (row .last .0) (row .result)) is
     (top-leaf (e .args .depth) (lone .result) (e .args .s .now) (e .args .lim) (e .args .c .at) _ (e .pre .1) (e .pre .2) (row .ensures)
-    (λ z. omega (arith, z, lone .ensures, lone-low (e .args .b))) (c .before .before .before .leaf-head .ensures))
+    (λ z. omega (arith, z, lone .ensures, leaf-low resp2 (e .args .b))) (c .before .before .before .leaf-head .ensures))
 
 all2-requires : tie.Need-all2-requires
 all2-requires c κs = search needs

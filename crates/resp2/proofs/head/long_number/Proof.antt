@@ -57,7 +57,11 @@ returns-3 c =
     let v = c .before .before .v .given in
     subst (λ (x : ℕ). Reads (numberP resp2) (e .s .now) (e .c .at) (Leaf.Row Number x 0 0 (v .0 .1 .0))) (sym (c .minus-word .ensures))
     (short-minus (e .s .now) (e .c .at) (v .0 .0) (v .0 .1 .0)
-    (subst (ShortIn 18 (e .s .now) (e .c .at + 1)) (v .1) (c .before .before .before .before .digits-line .ensures)) (omega arith) (c .before .before .before .before .before .if2 .left) resp2)
+    (record {
+      there = omega arith;
+      sign = c .before .before .before .before .before .if2 .left;
+      line = subst (ShortIn 18 (e .s .now) (e .c .at + 1)) (v .1) (c .before .before .before .before .digits-line .ensures);
+    }) resp2)
 
 returns-4 : tie.Need-returns-4
 returns-4 c = c .number-long3 .ensures resp2

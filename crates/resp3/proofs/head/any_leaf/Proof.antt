@@ -28,10 +28,14 @@ returns-2 c =
 plain-head-requires : tie.Need-plain-head-requires
 plain-head-requires c κs = search needs
 
+again-requires : tie.Need-again-requires
+again-requires c κs = search needs
+
 returns-3 : tie.Need-returns-3
 returns-3 c =
-    let e = c .before .before .before .before .before .args in
-    leaf-plain (e .s .now) (e .c .at) (e .k) (c .before .before .before .before .before .pre .1) (sym (c .before .before .on-digits .ensures) ∙ c .before .if2 .left) (c .plain-head .ensures)
+    let e = c .before .before .before .before .before .before .args in
+    rw (c .again .ensures)
+    (leaf-plain (e .s .now) (e .c .at) (e .k) (c .before .before .before .before .before .before .pre .1) (sym (c .before .before .before .on-digits .ensures) ∙ c .before .before .if2 .left) (c .before .plain-head .ensures))
 
 pub any-leaf-spec : {M : Type 1} → statement M
 any-leaf-spec =
@@ -43,4 +47,5 @@ any-leaf-spec =
     sized-requires
     returns-2
     plain-head-requires
+    again-requires
     returns-3)

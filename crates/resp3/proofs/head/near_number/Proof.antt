@@ -47,7 +47,7 @@ returns-2 c =
     let w = subst (ShortIn 18 (e .s .now) (e .c .at + 1)) (v .1) (c .before .before .before .before .digits-line .ensures) in (
       omega arith,
       leaf-number (e .s .now) (e .c .at) Number (omega arith) refl (subst (λ (x : ℕ). Reads (numberP resp3) (e .s .now) (e .c .at) (Leaf.Row Number x 0 0 (v .0 .1 .0))) (sym (c .minus-word .ensures))
-          (short-minus (e .s .now) (e .c .at) (v .0 .0) (v .0 .1 .0) w (omega arith) (c .before .before .before .before .before .if2 .taken) resp3)),
+          (short-minus (e .s .now) (e .c .at) (v .0 .0) (v .0 .1 .0) (record { there = omega arith; sign = c .before .before .before .before .before .if2 .taken; line = w }) resp3)),
     )
 
 returns-3 : tie.Need-returns-3

@@ -15,10 +15,10 @@ neither true b e = let z : _≡_ {A = ℕ} 0 1 = cc in absurd (omega arith)
 neither false b e = (refl, e)
 
 abbrev Inv-loop : tie.InvT-loop
-Inv-loop s i hit₀ k₀ hit k = (k ≤ 128) × (hit ≡ false → Clear CR s i (i + k))
+Inv-loop s i n hit₀ k₀ hit k = (k ≤ n) × (hit ≡ false → Clear CR s i (i + k))
 
 abbrev μ-loop : tie.MeasureT-loop
-μ-loop s i hit₀ k₀ hit k = 128 - k
+μ-loop s i n hit₀ k₀ hit k = n - k
 
 loop-holds : tie.Need-loop-holds Inv-loop μ-loop
 loop-holds c = (omega arith, λ e. clear-none _ _ _ (omega arith))
@@ -46,8 +46,8 @@ returns : tie.Need-returns Inv-loop μ-loop
 returns c t =
     let at = c .before in
     let e = at .before .args in
-    let q : e .i + at .loop .k ≡ e .i + 128 = omega arith in
-    subst (λ (n : ℕ). Clear CR (e .s .now) (e .i) n) q (at .loop .inv .1 t)
+    let q : e .i + at .loop .k ≡ e .i + e .n = omega arith in
+    subst (λ (j : ℕ). Clear CR (e .s .now) (e .i) j) q (at .loop .inv .1 t)
 
 pub block-has-cr-spec : {M : Type 1} → statement M
 block-has-cr-spec =

@@ -1,7 +1,7 @@
 -- `text::scan::next_cr` meets its contract.
 use native.Mathlib.Omega.{arith}
+use Rattle.text.proofs.Lines.{first-join}
 use borrow.Author.Needs.{needs}
-use Rattle.text.proofs.Lines.{clear-join}
 use Rattle.text.proofs.scan.next_cr.Statement.{statement}
 use Rattle.text.proofs.scan.next_cr.Tie as tie
 
@@ -31,18 +31,16 @@ returns-2 c =
 past-blocks-requires : tie.Need-past-blocks-requires
 past-blocks-requires c κs = search needs
 
+past-blocks-requires-2 : tie.Need-past-blocks-requires-2
+past-blocks-requires-2 c κs = search needs
+
 find-requires-3 : tie.Need-find-requires-3
 find-requires-3 c κs = search needs
 
 returns-3 : tie.Need-returns-3
 returns-3 c =
-    let near = c .before .before .before .find2 .ensures in
-    let r = c .find3 .ensures in
-    record {
-      clear = clear-join _ _ _ _ (near .clear) (clear-join _ _ _ _ (c .before .past-blocks .ensures .0) (r .clear));
-      within = r .within;
-      there = r .there;
-    }
+    first-join _ _ _ _ _ (c .before .before .before .before .find2 .ensures .clear)
+    (first-join _ _ _ _ _ (c .before .before .past-blocks .ensures .0) (first-join _ _ _ _ _ (c .before .past-blocks2 .ensures .0) (c .find3 .ensures)))
 
 pub next-cr-spec : {M : Type 1} → statement M
 next-cr-spec =
@@ -56,5 +54,6 @@ next-cr-spec =
     add-if2
     returns-2
     past-blocks-requires
+    past-blocks-requires-2
     find-requires-3
     returns-3)

@@ -2,7 +2,6 @@
 use mathlib.Core.Path.{refl}
 use Prim.Native.Nat.{_≤_, _-_}
 use native.Mathlib.Omega.{arith}
-use lib.ListN.{length}
 use Rattle.meaning.specs.Demand.{CR}
 use Rattle.text.specs.Lines.{Clear}
 use Rattle.text.proofs.Lines.{clear-none, clear-join}
@@ -10,10 +9,10 @@ use Rattle.text.proofs.scan.past_blocks.Statement.{statement}
 use Rattle.text.proofs.scan.past_blocks.Tie as tie
 
 abbrev Inv-loop : tie.InvT-loop
-Inv-loop s from i₀ i = Clear CR s from i × (i ≤ length s)
+Inv-loop s from to n i₀ i = Clear CR s from i × (i ≤ to)
 
 abbrev μ-loop : tie.MeasureT-loop
-μ-loop s from i₀ i = length s - i
+μ-loop s from to n i₀ i = to - i
 
 loop-holds : tie.Need-loop-holds Inv-loop μ-loop
 loop-holds c = (clear-none _ _ _ refl, omega arith)
