@@ -87,6 +87,18 @@ fn hiredis<'a>(work: &'a Work, objects: bool) -> Run<'a> {
     })
 }
 
+/// Nanoseconds of n turns, with so many bytes more on the stack than where it is called.
+#[inline(never)]
+fn beneath<const BYTES: usize>(way: &mut Run, n: u64) -> f64 {
+    let more = [0u8; BYTES];
+    black_box(&more);
+    let start = Instant::now();
+    assert!(way(n), "an answer changed");
+    let taken = start.elapsed().as_nanos() as f64;
+    black_box(&more);
+    taken
+}
+
 /// The least time of one turn for each way, in nanoseconds; None for a way that does not give the work's answer. The
 /// ways take turns, so that what disturbs the machine disturbs all of them.
 fn least(mut ways: Vec<Option<Run>>, millis: u64, frames: usize) -> Vec<Option<f64>> {
@@ -110,13 +122,15 @@ fn least(mut ways: Vec<Option<Run>>, millis: u64, frames: usize) -> Vec<Option<f
     let mut best = vec![f64::INFINITY; ways.len()];
     let start = Instant::now();
     let mut rounds = 0;
+    // each round has the stack at another place: where a frame lies to a cache line makes some percent, and a process
+    // begins at one of them by chance
+    let places = [beneath::<16>, beneath::<32>, beneath::<48>, beneath::<64>];
     while rounds < 20 || start.elapsed().as_millis() < millis as u128 {
+        let taken = places[rounds % places.len()];
         rounds += 1;
         for (i, way) in ways.iter_mut().enumerate() {
             if let Some(w) = way {
-                let start = Instant::now();
-                assert!(w(turns[i]), "an answer changed");
-                best[i] = best[i].min(start.elapsed().as_nanos() as f64 / turns[i] as f64);
+                best[i] = best[i].min(taken(w, turns[i]) / turns[i] as f64);
             }
         }
     }
