@@ -152,7 +152,7 @@ pub fn bulk(s: &[u8], kind: u64, c: Cursor, n: u64) -> Leaf
     }
 }
 
-// ---- near leaves: what a call reads without another call whose one frame is a short leaf
+// ---- near leaves: read without a call where a few bytes tell
 
 pub enum Near {
     Leaf(Leaf),

@@ -44,7 +44,7 @@ pub fn array(
     Walk::To(place, row, kinds::ARRAY as u64)
 }
 
-// A frame, with `depth` left.
+// A frame, with `depth` left. s is handed over by its parts, so that the walk beneath has it in registers.
 fn frame(
     s: &[u8],
     t: &mut [u64],

@@ -218,7 +218,7 @@ pub fn near_leaf(s: &[u8], k: u8, c: Cursor) -> Near
 
 // ---- what a call reads itself whose top frame is a leaf
 
-// A frame of kind k that has no children, behind its type byte, by a call.
+// A frame of kind k that has no children, behind its type byte, by a call. A kind of one line has one call less so than by `any_leaf`.
 pub fn called_leaf(s: &[u8], k: u8, c: Cursor) -> Leaf
     requires { ⌜ (c .at ≤ length (now s)) × (k < Array) ⌝ }
     ensures { λ r. ⌜ Reads (headP resp3 k) (now (s .entry)) (c .at) r ⌝ }

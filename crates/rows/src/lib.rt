@@ -66,7 +66,7 @@ pub fn row_at(t: &[u64], row: usize) -> Row
 // How many rows beside a table a holder of few frames is walked in: a command of up to five frames.
 pub const FEW: usize = 6;
 
-// And one with an array at its front: as many as frames may stand in one another.
+// And one with an array at its front, in RESP3 also one of some frames more: as many as frames may stand in one another.
 pub const NESTED: usize = 32;
 
 // What rows beside a table hold before a walk: no byte repeated makes this word, so that no call fills them.
