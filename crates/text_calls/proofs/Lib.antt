@@ -1,2 +1,0 @@
--- From a check on a range to a call on a whole buffer.
-mod Wholes
