@@ -1,5 +1,5 @@
-/* The calls of the RESP2 and RESP3 decoders, the RESP2 encoder and the digits that `rt staticlib imrazgul` builds into
- * libimrazgul.a.
+/* The calls of the RESP2 and RESP3 decoders, the RESP2 encoder and the digits that libimrazgul.a has, which ./install
+ * builds.
  *
  * What is asked of the caller. A slice is passed as a pointer and a length. A pointer with length 0 is not read
  * through and may be null; any other points to as many elements as the length says. A table is aligned to 8 bytes.
