@@ -1,21 +1,17 @@
 -- What the promise of a decode call gives, in the numbers that it tells: answers that stay, and bounds, proved of every decoder's promise in `answers`.
-use Rattle.std.specs.Prelude.{◌≡◌, List, ◌++◌, Bool, true, false, ◌⊎◌, ℕ, ◌+◌, ◌*◌, ◌≤◌, ◌<◌, length, take, drop, ltb}
+use Rattle.std.specs.Prelude.{◌≡◌, List, ◌++◌, ℕ, ◌+◌, ◌*◌, ◌≤◌, ◌<◌, length, take, drop}
 use Rattle.std.proofs.Math.Path.{refl, sym, ap, subst}
-use Rattle.std.proofs.Common.{◌∙◌, inl, inr, ⊎_elim, arith}
-use Rattle.std.proofs.Math.ListN.{get_or}
-use Rattle.meaning.specs.Choice.{pick}
-use Rattle.meaning.specs.Kinds.{Profile, resp2}
+use Rattle.std.proofs.Common.{◌∙◌, arith}
+use Rattle.meaning.specs.Kinds.{Profile}
 use Rattle.meaning.specs.Rows.{row_width, rows_in}
 use Rattle.meaning.specs.Frames.{depth_limit}
-use Rattle.meaning.specs.Decode.{Outcome, refusal, waiting}
-use Rattle.meaning.specs.Encode.{encoding, encode}
-use Rattle.answers.specs.Answers.{answer_of, table_after, meant, Decoded, told_of}
+use Rattle.answers.specs.Answers.{answer_of, meant, Decoded, told_of}
 use Rattle.answers.specs.Theorems as Every
 use Rattle.answers.specs.Theorems.{Took, rows_of}
 use Rattle.answers.specs.declared.Answer.{Answer}
-use Rattle.answers.specs.declared.Answer.TheVariants.{Frame, Marker, Refused, Unfinished}
+use Rattle.answers.specs.declared.Answer.TheVariants.{Refused, Unfinished}
 use Rattle.answers.specs.declared.Told.{Told}
-use Rattle.imrazgul.specs.Calls.{DecodeCall, EncodeCall, length_told}
+use Rattle.imrazgul.specs.Calls.{DecodeCall}
 use Rattle.imrazgul.specs.Theorems.{IsFrame, IsRefusal, took, rows, refused}
 
 -- ---- of a call on s, from a place of it, with a table that held t₀: it told r

@@ -1,26 +1,22 @@
 -- The round trips of the exported calls (RULES 5.6), in the numbers that they tell: decode, then encode. Proved of the definitions in `meaning` `TripLaws`.
-use Rattle.std.specs.Prelude.{◌≡◌, refl, List, ◌++◌, Bool, true, ℕ, ◌+◌, ◌*◌, ◌≤◌, get_or, leb, ltb}
-use Rattle.std.proofs.Common.{sym, subst, ◌∙◌, arith, length-take, get_or-take, take_at}
+use Rattle.std.specs.Prelude.{◌≡◌, List, ◌++◌, Bool, true, ℕ, ◌+◌, ◌*◌, ◌≤◌}
+use Rattle.std.proofs.Common.{sym, subst, ◌∙◌, arith}
 use Rattle.std.proofs.Math.Path.{ap}
 use Rattle.std.proofs.Math.Bool.{false}
 use Rattle.std.proofs.Math.ListN.{length, take, drop}
 use Rattle.std.proofs.lemmas.List.Edits.{sets}
 use Rattle.std.proofs.Math.Seq.{sets-eq, length-sets, length-take-le, take-append_seam}
-use borrow.Author.Tests.{le-leb, leb-true, le-ltb}
-use Rattle.meaning.specs.Choice.{pick}
+use borrow.Author.Tests.{le-leb, le-ltb}
 use Rattle.meaning.specs.Kinds.{resp2}
 use Rattle.meaning.specs.Rows.{Forest, span, words, row_width, rows_in}
 use Rattle.meaning.specs.RowsLaws.{length-words}
 use Rattle.meaning.specs.Frames.{depth_limit}
-use Rattle.meaning.specs.Tree.{Reading, unfit, got}
-use Rattle.meaning.specs.Decode.{Outcome, frame, marker, refusal, waiting}
+use Rattle.meaning.specs.Decode.{frame}
 use Rattle.meaning.specs.DecodeLaws.{OfFrame, InBounds, frame-within}
-use Rattle.meaning.specs.TreeLaws.{frame-parts}
-use Rattle.meaning.specs.Encode.{row_is_fit, children_of, top_in, present, encoded, encoding_of, source_limit, able, unable, encoding, Encoded, written, short, within, encode}
-use Rattle.meaning.specs.Trips.{Words64, Clean, Alike, placed, spelled}
+use Rattle.meaning.specs.Encode.{present, source_limit, able, encoding, Encoded, written, within, encode}
+use Rattle.meaning.specs.Trips.{spelled}
 use Rattle.meaning.proofs.TripLaws as Trip
-use Rattle.answers.specs.Answers.{answer_of, table_after, meant, told_of}
-use Rattle.answers.specs.declared.Told.{Told}
+use Rattle.answers.specs.Answers.{table_after, meant}
 use Rattle.encoder.specs.Encodes as Encodes
 use Rattle.encoder.specs.Encodes.{written_of, output_after}
 use Rattle.encoder.specs.declared.Told.{Told as Numbers}
