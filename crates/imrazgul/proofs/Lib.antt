@@ -1,3 +1,3 @@
--- What rests on what the must-fail edit of a promise changes: it stands apart from specs/, so that the edit is refused for a theorem that it breaks.
+-- Theorems that cite one which falls under the must-fail edit of a promise: in specs/ they would not be checked then, and rt would take the edit for a text that it cannot read.
 pub mod Theorems
 pub mod Trips
