@@ -1,2 +1,3 @@
--- The numbers of the refusals.
+-- The numbers of the refusals, and their words.
 pub mod Numbers
+pub mod Words

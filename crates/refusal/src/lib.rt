@@ -2,7 +2,11 @@
 #![tactic(auto)]
 
 ghost use Rattle.std.specs.Prelude.{◌≡◌};
-ghost use Rattle.refusal.specs.Numbers.{number_of};
+ghost use Rattle.refusal.specs.Numbers.{number_of, Names};
+ghost use Rattle.refusal.specs.Words.{words_of};
+
+use std::error::Error;
+use std::fmt;
 
 /// Why bytes, or a table's rows, are refused (RULES 3.4).
 #[derive(Clone, Copy, Debug, PartialEq, Eq)]
@@ -39,7 +43,69 @@ impl Refusal {
     {
         self as u64 + 1
     }
+
+    /// What it means, in words.
+    pub fn words(self) -> &'static str
+        ensures { result.now ≡ words_of self }
+    {
+        match self {
+            Refusal::Type => "type byte unknown to the protocol",
+            Refusal::Length => "bad length text",
+            Refusal::Text => "bad Number, Double or Boolean text",
+            Refusal::Format => "Verbatim shorter than 4 bytes, or its format not txt or mkd",
+            Refusal::Hello => "bad Hello line",
+            Refusal::Marker => "streaming marker that is not allowed here",
+            Refusal::Attribute => "attribute directly after an attribute",
+            Refusal::Key => "Map or attribute key, or Set member, that is not allowed",
+            Refusal::Carrier => "attribute on a frame that cannot carry one",
+            Refusal::Depth => "more than 32 frames one inside another",
+            Refusal::Rows => "more rows needed than the table has",
+        }
+    }
 }
+
+impl fmt::Display for Refusal {
+    fn fmt<W: fmt::Write>(&self, f: &mut fmt::Formatter<W>) -> fmt::Result {
+        f.write_str(self.words())
+    }
+}
+
+impl Error for Refusal {}
+
+/// A number that no refusal has.
+#[derive(Clone, Copy, Debug, PartialEq, Eq)]
+pub struct UnknownNumber(pub u64);
+
+impl TryFrom<u64> for Refusal {
+    type Error = UnknownNumber;
+
+    ghost try_from_gives = { Names };
+
+    fn try_from(number: u64) -> Result<Self, UnknownNumber> {
+        match number {
+            1 => Ok(Refusal::Type),
+            2 => Ok(Refusal::Length),
+            3 => Ok(Refusal::Text),
+            4 => Ok(Refusal::Format),
+            5 => Ok(Refusal::Hello),
+            6 => Ok(Refusal::Marker),
+            7 => Ok(Refusal::Attribute),
+            8 => Ok(Refusal::Key),
+            9 => Ok(Refusal::Carrier),
+            10 => Ok(Refusal::Depth),
+            11 => Ok(Refusal::Rows),
+            _ => Err(UnknownNumber(number)),
+        }
+    }
+}
+
+impl fmt::Display for UnknownNumber {
+    fn fmt<W: fmt::Write>(&self, f: &mut fmt::Formatter<W>) -> fmt::Result {
+        write!(f, "no refusal has number {}", self.0)
+    }
+}
+
+impl Error for UnknownNumber {}
 
 /// What stops a read: bytes are missing, or they are refused, with the place that settled it.
 #[derive(Clone, Copy, Debug, PartialEq, Eq)]
@@ -47,3 +113,14 @@ pub enum Stop {
     Unfinished,
     Refused(Refusal, usize),
 }
+
+impl fmt::Display for Stop {
+    fn fmt<W: fmt::Write>(&self, f: &mut fmt::Formatter<W>) -> fmt::Result {
+        match self {
+            Stop::Unfinished => f.write_str("bytes are missing"),
+            Stop::Refused(refusal, at) => write!(f, "{refusal}, at byte {at}"),
+        }
+    }
+}
+
+impl Error for Stop {}
