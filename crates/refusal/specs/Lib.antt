@@ -1,3 +1,4 @@
 -- The numbers of the refusals, and their words.
 pub mod Numbers
+pub mod NumberLaws
 pub mod Words
