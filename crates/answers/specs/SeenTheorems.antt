@@ -1,5 +1,5 @@
 -- What the definition gives of what is seen of an answer, for every decoder, depth and place: answers that stay, and bounds.
-use Rattle.std.specs.Prelude.{◌≡◌, List, ◌++◌, ℕ, ◌+◌, ◌*◌, ◌≤◌, ◌<◌, length, take, drop, None, Some, Result, Ok, Err}
+use Rattle.std.specs.Prelude.{◌≡◌, List, ◌++◌, ℕ, ◌+◌, ◌*◌, ◌≤◌, ◌<◌, length, take, drop, None, Some, Err}
 use Rattle.std.proofs.Common.{sym, ap, subst, ◌∙◌, arith}
 use Rattle.std.proofs.lemmas.List.Edits.{sets, sets-eq}
 use Rattle.std.proofs.Math.Seq.{take-append_seam, drop-append_seam}
@@ -8,26 +8,9 @@ use Rattle.meaning.specs.Rows.{row_width, rows_in}
 use Rattle.meaning.specs.Decode.{Outcome, frame, marker, refusal, waiting, decode}
 use Rattle.meaning.specs.DecodeLaws as Laws
 use Rattle.meaning.specs.DecodeLaws.{Gave, OfFrame, InBounds}
-use Rattle.answers.specs.Answers.{Seen, seen, table_after, meant, Means}
-use Rattle.answers.specs.declared.Answer.{Answer}
-use Rattle.answers.specs.declared.Answer.TheVariants.{Frame, Marker}
+use Rattle.answers.specs.Answers.{Took, rows_of, SameRows, Seen, seen, table_after, meant, Means}
 
 -- ---- what an answer says
-
--- a frame or marker of n bytes
-abbrev pub Took : {E : Type 0} → ℕ → Result Answer E → Type 0
-Took n (Ok (Frame m u)) = m ≡ n
-Took n (Ok (Marker m u)) = m ≡ n
-Took n (Err e) = ⊥
-
-abbrev pub rows_of : {E : Type 0} → Result Answer E → ℕ
-rows_of (Ok (Frame n u)) = u
-rows_of (Ok (Marker n u)) = u
-rows_of (Err e) = 0
-
--- the answer's rows stand alike in two tables
-abbrev pub SameRows : {E : Type 0} → Result Answer E → List ℕ → List ℕ → Type 0
-SameRows r t u = take (row_width * rows_of r) t ≡ take (row_width * rows_of r) u
 
 gave : (at n : ℕ) (a : Outcome) → Took n (seen at a) → Gave n a
 gave at n (frame m u ws) h = h
