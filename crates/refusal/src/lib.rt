@@ -107,10 +107,12 @@ impl fmt::Display for UnknownNumber {
 
 impl Error for UnknownNumber {}
 
-/// What stops a read: bytes are missing, or they are refused, with the place that settled it.
+/// What stops a read.
 #[derive(Clone, Copy, Debug, PartialEq, Eq)]
 pub enum Stop {
+    /// Bytes are missing: more of them may make it a frame.
     Unfinished,
+    /// Why it is refused, and the place behind the bytes that settled it.
     Refused(Refusal, usize),
 }
 
@@ -124,3 +126,25 @@ impl fmt::Display for Stop {
 }
 
 impl Error for Stop {}
+
+#[cfg(test)]
+mod tests {
+    use super::*;
+    use std::test::Fail;
+
+    #[test]
+    fn says_why(rt: HostRuntime) -> Result<(), Fail> {
+        let alloc = rt.alloc();
+        let stop = Stop::Refused(Refusal::Rows, 7);
+        let refused = format!(in alloc; "{stop}")?;
+        assert_eq!(rt;
+            refused.as_str(),
+            "more rows needed than the table has, at byte 7"
+        );
+        let unfinished = format!(in alloc; "{}", Stop::Unfinished)?;
+        assert_eq!(rt; unfinished.as_str(), "bytes are missing");
+        let unknown = format!(in alloc; "{}", UnknownNumber(12))?;
+        assert_eq!(rt; unknown.as_str(), "no refusal has number 12");
+        Ok(())
+    }
+}
