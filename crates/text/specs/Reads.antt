@@ -1,9 +1,8 @@
 -- What a read gives: the run of a program at the cursor's place, whatever the table.
-use Rattle.std.specs.Prelude.{◌≡◌, ℕ, ◌+◌, ◌-◌, List, Result, Ok, Err, length, take, get_or}
+use Rattle.std.specs.Prelude.{◌≡◌, ℕ, ◌-◌, List, Result, Ok, Err, length, take, get_or}
 use Rattle.meaning.specs.Demand.{bytes, line}
 use Rattle.meaning.specs.Prog.{Prog, ret, ask, run, Out, done, refused, unfinished}
 use Rattle.refusal.specs.declared.Stop.{Stop}
-use Rattle.refusal.specs.declared.Stop.TheVariants as Stop
 use Rattle.refusal.specs.Numbers.{number_of}
 use Rattle.text.specs.declared.cursor.Cursor.{Cursor}
 
