@@ -70,3 +70,8 @@ spread-parts (c ∷ r) = go (is_space c) (spread-parts r)
     go : (b : Bool) → spread (parts r) ≡ length r + 1 → spread (pick b ([] ∷ parts r) (cons_part c (parts r))) ≡ suc (length r) + 1
     go true e = omega arith
     go false e = omega (arith, spread-cons c (parts r) (length r) e)
+
+-- there is a first part
+pub some-parts : (l : List ℕ) → parts l ≡ [] → ⊥
+unfolding spread
+some-parts l e = omega (arith, spread-parts l, ap spread e)

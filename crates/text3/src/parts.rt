@@ -23,13 +23,13 @@ pub(crate) struct Parts<'a> {
 impl<'a> Parts<'a> {
     ghost use Rattle.std.specs.Prelude.{◌≡◌, ◌+◌, ◌^◌, ◌<◌, length};
     ghost use Rattle.meaning.specs.Text.{parts};
-    ghost use Rattle.text3.specs.Parts.{parts_left, line_end, IsOnly};
+    ghost use Rattle.text3.specs.Parts.{parts_left, place, IsOnly};
 
     // The parts of a text that starts at a place.
     pub(crate) fn new(text: &'a [u8], at: usize) -> Parts<'a>
         requires { at + length text.now < 2 ^ 64 }
         ensures left { parts_left result ≡ parts text.now }
-        ensures end { line_end result ≡ at + length text.now }
+        ensures place { place result ≡ at }
     {
         Parts {
             left: Some(text),
