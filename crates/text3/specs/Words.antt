@@ -11,15 +11,15 @@ abbrev pub one_word : {A : Type 0} → List ℕ → A → List ℕ → A → Lis
 one_word first a second b s = pick (same s first) (Some a) (pick (same s second) (Some b) None)
 
 -- the number of an answer, if there is one
-abbrev pub number_of : {A : Type 0} → (A → ℕ) → Option A → Math.Option ℕ
-number_of code None = Math.none
-number_of code (Some a) = Math.some (code a)
+abbrev pub word_number : {A : Type 0} → (A → ℕ) → Option A → Math.Option ℕ
+word_number code None = Math.none
+word_number code (Some a) = Math.some (code a)
 
 -- true is 1
 abbrev pub bit_of : Bool → ℕ
 bit_of true = 1
 bit_of false = 0
 
-abbrev pub code_of : Format → ℕ
-code_of Text = 1
-code_of Markdown = 2
+abbrev pub format_code : Format → ℕ
+format_code Text = 1
+format_code Markdown = 2

@@ -1,6 +1,6 @@
 //! Verbatim formats.
 ghost use Rattle.std.specs.Prelude.{◌≡◌};
-ghost use Rattle.text3.specs.Words.{code_of};
+ghost use Rattle.text3.specs.Words.{format_code};
 
 /// The format of a verbatim string.
 #[derive(Clone, Copy, Debug, PartialEq, Eq)]
@@ -12,7 +12,7 @@ pub enum Format {
 impl Format {
     /// The number that a row has for it, 1 or 2.
     pub fn code(self) -> u64
-        ensures { result ≡ code_of self }
+        ensures { result ≡ format_code self }
     {
         self as u64 + 1
     }
