@@ -85,7 +85,7 @@ fn hello<'a>(c: Cursor<'a>) -> Result<(Head, Cursor<'a>), Stop>
 }
 
 /// A frame's first lines, behind its type byte; none: the protocol has no such byte.
-#[tactic(auto, unfolding(meaning::specs::Frames::head_p))]
+#[tactic(auto, using(text::proofs::Chain::reads_refuse), unfolding(meaning::specs::Frames::head_p))]
 #[inline(always)]
 pub fn head_of<'a, P: Profile>(kind: Option<Kind>, c: Cursor<'a>) -> Result<(Head, Cursor<'a>), Stop>
     ensures { Gives (head_p P.profile (coded kind)) step_of c.entry result }
