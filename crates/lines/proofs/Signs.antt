@@ -1,5 +1,5 @@
 -- The number that a word is in two's complement, by its sign and its magnitude.
-use Rattle.std.proofs.Common.{◌≡◌, refl, sym, ap, ◌∙◌, Bool, true, false, ℕ, suc, ◌+◌, ◌-◌, ◌^◌, ◌<◌, ◌≤◌, ℤ, pos, negsuc, nat_abs, arith, ltb-true, ltb-false, le-ltb, w64, to_z, of_z, ltb}
+use Rattle.std.proofs.Common.{◌≡◌, refl, ap, ◌∙◌, Bool, true, false, ℕ, suc, ◌-◌, ◌^◌, ◌<◌, ◌≤◌, ℤ, pos, negsuc, nat_abs, arith, ltb-true, ltb-false, le-ltb, w64, to_z, of_z, ltb}
 use Rattle.std.proofs.Math.Facts.{to_z-of_z, to_z_pos, to_z-neg, sfits_to_z}
 use Rattle.std.specs.Int.Signed.{lt_z}
 use Rattle.meaning.specs.DigitLaws.{shown-word, shown-minus-word}

@@ -1,5 +1,4 @@
 -- The sign and the magnitude, as the machine reads the number back.
-use Rattle.std.proofs.Common.{sym}
 use Rattle.lines.proofs.Signs.{sign-read}
 use Rattle.lines.proofs.signed.Goals as goal
 

@@ -1,5 +1,5 @@
 -- A length, a number and an end, one after another; the length that is written is that of the number.
-use Rattle.std.proofs.Common.{ap, ℕ}
+use Rattle.std.proofs.Common.{ap}
 use Rattle.meaning.specs.Kinds.{blob_string_kind}
 use Rattle.meaning.specs.Encode.{count_for}
 use Rattle.lines.specs.Puts.{puts-more, puts-as}

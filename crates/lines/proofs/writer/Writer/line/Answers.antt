@@ -1,5 +1,5 @@
 -- A byte, a text and an end, one after another.
-use Rattle.std.proofs.Common.{ap, ℕ, List, ◌∷◌, ◌++◌}
+use Rattle.std.proofs.Common.{ap, ℕ, ◌∷◌, ◌++◌}
 use Rattle.meaning.specs.Encode.{crlf}
 use Rattle.lines.specs.Puts.{puts-more, puts-as}
 use Rattle.lines.proofs.writer.Writer.line.Goals as goal

@@ -10,6 +10,6 @@ pub returns : goal.returns
 returns c =
     let m = c.signed-negative.result.1 in
     elim c.if-negative.branch [
-      then-negative w ↦ puts-as (sym (c.signed-negative.ensures ∙ rw w.if-negative.true)) (puts-more w.byte.ensures (subst (λ (u : Writer). Puts (shown (digits_of m)) u c.digits.new.self) w.self-is c.digits.ensures))
-    | else-negative w ↦ puts-as (sym (c.signed-negative.ensures ∙ rw w.if-negative.false)) (subst (λ (u : Writer). Puts (shown (digits_of m)) u c.digits.new.self) w.self-is c.digits.ensures)
+      | then-negative w ↦ puts-as (sym (c.signed-negative.ensures ∙ rw w.if-negative.true)) (puts-more w.byte.ensures (subst (λ (u : Writer). Puts (shown (digits_of m)) u c.digits.new.self) w.self-is c.digits.ensures))
+      | else-negative w ↦ puts-as (sym (c.signed-negative.ensures ∙ rw w.if-negative.false)) (subst (λ (u : Writer). Puts (shown (digits_of m)) u c.digits.new.self) w.self-is c.digits.ensures)
     ]
