@@ -13,7 +13,7 @@ use Rattle.meaning.specs.RowsLaws.{length-words}
 use Rattle.meaning.specs.Frames.{depth_limit}
 use Rattle.meaning.specs.Decode.{frame}
 use Rattle.meaning.specs.DecodeLaws.{OfFrame, InBounds, frame-within}
-use Rattle.meaning.specs.Encode.{present, source_limit, able, encoding, Encoded, written, within, encode}
+use Rattle.meaning.specs.Encode.{present, source_limit, able, encoding, written, within, encode}
 use Rattle.meaning.specs.Trips.{spelled}
 use Rattle.meaning.proofs.TripLaws as Trip
 use Rattle.answers.specs.Answers.{table_after, meant}
