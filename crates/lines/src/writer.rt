@@ -1,8 +1,8 @@
 //! What is written of a row, piece by piece.
-ghost use Rattle.std.specs.Prelude.{◌≡◌, true, [], ◌∷◌, ◌++◌, ◌+◌, ◌≤◌, length};
-ghost use Rattle.meaning.specs.Kinds.{type_byte, number_kind, blob_string_kind, array_kind};
+ghost use Rattle.std.specs.Prelude.{◌≡◌, true, [], ◌∷◌, ◌+◌, ◌≤◌, length};
+ghost use Rattle.meaning.specs.Kinds.{type_byte, number_kind, blob_string_kind};
 ghost use Rattle.meaning.specs.Digits.{digits_of, shown};
-ghost use Rattle.meaning.specs.Encode.{row_is_fit, line_of, line_for, count_for, bulk_for, integer_text, crlf, source_limit};
+ghost use Rattle.meaning.specs.Encode.{line_of, line_for, count_for, bulk_for, integer_text, crlf, source_limit};
 ghost use Rattle.kinds.specs.Codes.{code_of};
 ghost use Rattle.rows.specs.Put.{node_in};
 ghost use Rattle.lines.specs.Fits.{IsFit};
