@@ -18,6 +18,7 @@ impl<'a> Cursor<'a> {
 
     /// The next byte.
     #[inline(always)]
+    #[tactic(auto, using(crate::proofs::Chain::finding))]
     pub fn byte(self) -> Result<(u8, Cursor<'a>), Stop>
         ensures { Gives byte_p (λ b. b) self.entry result }
     {
@@ -36,6 +37,7 @@ impl<'a> Cursor<'a> {
 
     /// The next n bytes. n may be as large as u64's largest, so it is compared with what is left before a sum is formed.
     #[inline(always)]
+    #[tactic(auto, using(crate::proofs::Chain::finding))]
     pub fn skip(self, n: u64) -> Result<(&'a [u8], Cursor<'a>), Stop>
         ensures text { Gives (skip_p n) (λ t. t.now) self.entry result }
         ensures size { IfOk result (λ r. length r.0.now ≡ n) }
@@ -57,6 +59,7 @@ impl<'a> Cursor<'a> {
 
     /// The text of the line that starts here, without its CR LF.
     #[inline(always)]
+    #[tactic(auto, using(crate::proofs::Chain::finding))]
     pub fn line(self) -> Result<(&'a [u8], Cursor<'a>), Stop>
         ensures text { Gives text_p (λ t. t.now) self.entry result }
         ensures place { IfOk result (λ r. self.entry.at + length r.0.now + 2 ≡ r.1.at) }
