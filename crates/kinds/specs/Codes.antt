@@ -1,7 +1,6 @@
 -- The code of each kind (RULES 1.3).
 use Rattle.std.specs.Prelude.{ℕ, Option, None, Some}
 use Rattle.kinds.specs.declared.kind.Kind.{Kind}
-use Rattle.kinds.specs.declared.kind.Kind.TheVariants as Kind
 
 abbrev pub code_of : Kind → ℕ
 code_of Kind.SimpleString = 1
@@ -26,6 +25,7 @@ code_of Kind.Marker = 19
 code_of Kind.User = 20
 code_of Kind.Password = 21
 code_of Kind.Name = 22
+
 -- the same, or 0 where there is none
 abbrev pub coded : Option Kind → ℕ
 coded None = 0

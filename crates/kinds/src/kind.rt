@@ -3,6 +3,7 @@ ghost use Rattle.std.specs.Prelude.{◌≡◌, ltb};
 ghost use Rattle.meaning.specs.Choice.{pick};
 ghost use Rattle.meaning.specs.Kinds.{resp2, resp3, kind_of, may_key, may_carry, has_children};
 ghost use Rattle.kinds.specs.Codes.{code_of, coded};
+ghost use Rattle.kinds.specs.Entries.{IsKinds, IsColumns};
 
 /// What a row is: a kind of frame, a marker, or a field of a Hello.
 #[derive(Clone, Copy, Debug, PartialEq, Eq)]
@@ -28,7 +29,8 @@ pub enum Kind {
     Marker,
     User,
     Password,
-    Name,}
+    Name,
+}
 
 /// Indexed by the type byte: the code of its kind in RESP2, 0 where there is none.
 const KINDS2: [u8; 256] = [
@@ -78,29 +80,53 @@ const KINDS3: [u8; 256] = [
 /// Indexed by the code: whether it may be a key or a set member, may carry an attribute, has children.
 const COLUMNS: [[bool; 3]; 23] = [
     [false, false, false], // 0, no kind
-    [true, true, false],   // 1 SimpleString
-    [true, true, false],   // 2 SimpleError
-    [true, true, false],   // 3 Number
-    [true, true, false],   // 4 Double
-    [true, true, false],   // 5 Boolean
-    [true, false, false],  // 6 Null
-    [true, true, false],   // 7 BlobString
-    [true, true, false],   // 8 BlobError
-    [true, true, false],   // 9 Verbatim
-    [true, true, false],   // 10 BigNumber
-    [true, false, false],  // 11 ChunkedString
-    [true, false, false],  // 12 EndStream
-    [false, true, true],   // 13 Array
-    [false, true, true],   // 14 Map
-    [false, true, true],   // 15 Set
-    [false, true, true],   // 16 Push
-    [false, false, true],  // 17 Attribute
+    [true, true, false], // 1 SimpleString
+    [true, true, false], // 2 SimpleError
+    [true, true, false], // 3 Number
+    [true, true, false], // 4 Double
+    [true, true, false], // 5 Boolean
+    [true, false, false], // 6 Null
+    [true, true, false], // 7 BlobString
+    [true, true, false], // 8 BlobError
+    [true, true, false], // 9 Verbatim
+    [true, true, false], // 10 BigNumber
+    [true, false, false], // 11 ChunkedString
+    [true, false, false], // 12 EndStream
+    [false, true, true], // 13 Array
+    [false, true, true], // 14 Map
+    [false, true, true], // 15 Set
+    [false, true, true], // 16 Push
+    [false, false, true], // 17 Attribute
     [false, false, false], // 18 Hello
-    [false, true, false],  // 19 a streaming marker
+    [false, true, false], // 19 a streaming marker
     [false, false, false], // 20 Hello's user
     [false, false, false], // 21 Hello's password
     [false, false, false], // 22 Hello's name
 ];
+
+/// RESP2's entries, where they stand.
+#[inline(always)]
+pub fn all2() -> &'static [u8; 256]
+    ensures { IsKinds resp2 result.now }
+{
+    &KINDS2
+}
+
+/// RESP3's.
+#[inline(always)]
+pub fn all3() -> &'static [u8; 256]
+    ensures { IsKinds resp3 result.now }
+{
+    &KINDS3
+}
+
+/// The columns, by code.
+#[inline(always)]
+pub fn all_columns() -> &'static [[bool; 3]; 23]
+    ensures { IsColumns result.now }
+{
+    &COLUMNS
+}
 
 impl Kind {
     /// The code by which a row's word 0 names it, 1 to 22.
@@ -144,19 +170,21 @@ impl Kind {
     }
 
     /// The kind of a type byte of RESP2.
+    #[tactic(auto, using(crate::proofs::AllBytes::named))]
     #[inline(always)]
     pub fn of_resp2(b: u8) -> Option<Kind>
         ensures { coded result ≡ kind_of resp2 b }
     {
-        Kind::from_code(KINDS2[b as usize] as u64)
+        Kind::from_code(all2()[b as usize] as u64)
     }
 
     /// The kind of a type byte of RESP3.
+    #[tactic(auto, using(crate::proofs::AllBytes::named))]
     #[inline(always)]
     pub fn of_resp3(b: u8) -> Option<Kind>
         ensures { coded result ≡ kind_of resp3 b }
     {
-        Kind::from_code(KINDS3[b as usize] as u64)
+        Kind::from_code(all3()[b as usize] as u64)
     }
 
     /// Whether it may be a key or a set member.
