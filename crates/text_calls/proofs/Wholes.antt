@@ -7,7 +7,7 @@ use Rattle.meaning.specs.Choice.{pick}
 use Rattle.meaning.specs.Text.{Num, plus, minus, count, minus_one, digits, below64, plain_length}
 use Rattle.meaning.specs.Text as Text
 use Rattle.text.specs.Numbers.{plain_as, length_as, word_as}
-use Rattle.text3.specs.Words.{number_of, bit_of}
+use Rattle.text3.specs.Words.{word_number, bit_of}
 use Rattle.text_calls.specs.Answers.{word_in, length_in, bit_in, length_answer, number_answer, boolean_answer}
 
 -- a plain length is never -1
@@ -38,6 +38,6 @@ number_right none = refl
 number_right (some (plus n)) = refl
 number_right (some (minus n)) = refl
 
-pub boolean_right : (o : Option Bool) → bit_in o ≡ boolean_answer (number_of bit_of o)
+pub boolean_right : (o : Option Bool) → bit_in o ≡ boolean_answer (word_number bit_of o)
 boolean_right None = refl
 boolean_right (Some b) = refl
