@@ -112,7 +112,7 @@ impl Sample<'_> {
         requires { lent ≤ length output.old }
     {
         output::mark(output);
-        let told = encoder::numbers_of(encoder::encode(
+        let told = Told::from(encoder::encode(
             self.source,
             table,
             flag == Flag::Set,
@@ -132,7 +132,7 @@ impl Sample<'_> {
         requires { length self.now.written.now + 18 ≤ length room.old }
     {
         let n = self.written.len();
-        let told = encoder::size_numbers(encoder::length(self.source, table, flag == Flag::Set));
+        let told = Told::from(encoder::length(self.source, table, flag == Flag::Set));
         self.hold_told(told, u64::from(self.refusal))?;
         for lent in [n.saturating_sub(1), n, n + SPARE] {
             self.hold_encode(flag, table, &mut room[..lent + SPARE], lent)?;
