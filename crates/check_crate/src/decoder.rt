@@ -24,7 +24,7 @@ impl Decoder {
 
     /// One decode of `buffer`, its rows in `table`.
     pub(crate) fn told(self, buffer: &[u8], table: &mut [u64]) -> Told {
-        answers::numbers_of(match self {
+        Told::from(match self {
             Decoder::Resp2 => resp2::decode(buffer, table),
             Decoder::Complete => resp3::complete(buffer, table),
             Decoder::Streaming => resp3::streaming(buffer, table),
