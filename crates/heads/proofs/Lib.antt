@@ -1,0 +1,2 @@
+-- The kinds that are a text behind its length.
+mod Groups

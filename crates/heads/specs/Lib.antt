@@ -1,0 +1,2 @@
+-- A head as a step of the meaning.
+pub mod Steps
