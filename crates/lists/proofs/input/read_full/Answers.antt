@@ -18,7 +18,7 @@ slice_range-put_mid a k n xs ys within fits =
     let after = post_of a k xs in
     ap (take ((a + n) - a)) (drop_at (take a xs) (ys ++ after) a (length-take-le a xs within)) ∙ ap (λ m. take m (ys ++ after)) same ∙ take-append-le n ys after fits
 
--- src/lib.rt:20:5
+-- src/input.rt:23:5
 pub loop-done-preserved : goal.loop-done-preserved
 loop-done-preserved g c =
     let at = c.loop-done.done in
