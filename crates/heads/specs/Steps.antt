@@ -2,7 +2,7 @@
 use Rattle.std.specs.Prelude.{ℕ, ◌*◌, ◌||◌, eqb}
 use Rattle.meaning.specs.Choice.{pick}
 use Rattle.meaning.specs.Prog.{Prog}
-use Rattle.meaning.specs.Kinds.{resp3, map_kind, attribute_kind, verbatim_kind, chunked_string_kind}
+use Rattle.meaning.specs.Kinds.{resp3, array_kind, map_kind, attribute_kind, verbatim_kind, chunked_string_kind}
 use Rattle.meaning.specs.Frames.{Step, greeting, holder, bulk_p, verbatim_p, chunk_p}
 use Rattle.kinds.specs.Codes.{code_of}
 use Rattle.text3.specs.Hello.{fields_of}
@@ -17,6 +17,10 @@ abbrev pub step_of : Head → Step
 step_of (Head.Leaf l) = leaf_of l
 step_of (Head.Hello g) = greeting g.version (fields_of g)
 step_of (Head.Holder k n) = holder (code_of k) (frames_of (code_of k) n)
+
+-- an array's count
+abbrev pub array_of : ℕ → Step
+array_of n = holder array_kind n
 
 -- a text of n bytes, by its kind
 abbrev pub sized_p : ℕ → ℕ → Prog Step

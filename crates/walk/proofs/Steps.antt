@@ -7,14 +7,16 @@ use Rattle.meaning.specs.Choice.{pick}
 use Rattle.meaning.specs.Demand.{bytes, serves}
 use Rattle.meaning.specs.Prog.{Prog, ret, refuse, room, here, ask, bind, roomed, served, run, Out, done, refused, unfinished}
 use Rattle.meaning.specs.ProgLaws.{then, run_bind, When, Gives as All, gives-run, gives-bind, weighs-run}
-use Rattle.meaning.specs.Kinds.{Profile, kind_of, may_carry, attribute_kind}
+use Rattle.meaning.specs.Kinds.{Profile, kind_of, may_carry, array_kind, attribute_kind}
 use Rattle.meaning.specs.Rows.{Node, node_of, Forest, end, item, join, frame_kind, span, words, row_width, most_rows}
 use Rattle.meaning.specs.RowsLaws.{words-join, length-words}
-use Rattle.meaning.specs.Frames.{Step, head_p, body_p, type_p, rest_p, carries_p, annotated_p, attribute_p, frame_p}
+use Rattle.meaning.specs.Frames.{Step, holder, head_p, body_p, type_p, rest_p, carries_p, annotated_p, attribute_p, frame_p}
 use Rattle.meaning.specs.FramesLaws.{step_kind, Item, item_of, body-gives, body-fills, frame-fills}
 use Rattle.meaning.specs.KeyLaws.{attribute-head}
 use Rattle.meaning.specs.RunLaws.{map_out, frame-deep, frame-full, frame-typed, leaf-run}
 use Rattle.kinds.specs.Codes.{code_of}
+use Rattle.kinds.specs.declared.kind.Kind.TheVariants as Kind
+use Rattle.leaf.specs.Leaves.{leaf_of}
 use Rattle.leaf.specs.declared.Leaf.{Leaf}
 use Rattle.refusal.specs.declared.Refusal.{Refusal}
 use Rattle.refusal.specs.declared.Stop.{Stop}
@@ -26,9 +28,10 @@ use Rattle.heads.specs.declared.Head.{Head}
 use Rattle.heads.specs.declared.Head.TheVariants as head
 use Rattle.text3.specs.Hello.{fields_of}
 use Rattle.text3.specs.declared.hello.Greeting.{Greeting}
-use Rattle.heads.specs.Steps.{step_of}
+use Rattle.heads.specs.Steps.{step_of, array_of}
 use Rattle.walk.specs.declared.walked.Walked.{Walked}
 use Rattle.walk.specs.Walks.{Walks, Wrote, walked, put_if, greeted_p}
+use Rattle.walk.specs.Tops.{typed_p}
 use Rattle.walk.proofs.Said.{gives-done, gives-stopped, stopped, then-stop, walks-done, walks-stopped, walks-stop, walks-to, walks-as}
 use Rattle.walk.proofs.Placing.{put-length, leaf-words}
 
@@ -74,12 +77,18 @@ module _ (π : Profile) (d : ℕ) where
         pub frame-stops : {e : Stop} → Gives byte_p (λ b. b) c (Err e) → Walks (frame_p π d) w c lim used used t₀ t₀ (Err e)
         frame-stops g = walks-stop (framed some c lim used fits ∙ typed-stop π choice c lim (used + 1) g) (λ y. refl) refl
 
-        module _ {b : ℕ} {n : Cursor} (k : ℕ) (g : Gives byte_p (λ b. b) c (Ok (b, n))) (e : k ≡ kind_of π b) {x : Bool} (i : x ≡ eqb k attribute_kind) {t₁ : List ℕ} {r : Result (Walked × Cursor) Stop} where
-          pub frame-attribute : x ≡ true → Walks (attribute_p π (frame_p π (d - 1))) w n lim (used + 1) used t₀ t₁ r → Walks (frame_p π d) w c lim used used t₀ t₁ r
-          frame-attribute q v = walks-as g.over refl (chosen some c lim used fits k g e ∙ rw (sym i ∙ q) refl) v
+        module _ {b : ℕ} {n : Cursor} (k : ℕ) (g : Gives byte_p (λ b. b) c (Ok (b, n))) (e : k ≡ kind_of π b) {t₁ : List ℕ} {r : Result (Walked × Cursor) Stop} where
+          pub frame-rest : Walks (typed_p π (d - 1) k) w n lim (used + 1) used t₀ t₁ r → Walks (frame_p π d) w c lim used used t₀ t₁ r
+          frame-rest v = walks-as g.over refl (chosen some c lim used fits k g e) v
 
-          pub frame-body : x ≡ false → Walks (body_p π (frame_p π (d - 1)) 0 k) w n lim (used + 1) used t₀ t₁ r → Walks (frame_p π d) w c lim used used t₀ t₁ r
-          frame-body q v = walks-as g.over refl (chosen some c lim used fits k g e ∙ rw (sym i ∙ q) refl) v
+-- ---- a frame by its kind
+
+module _ (π : Profile) (d k : ℕ) {w : Bool} {c : Cursor} {lim used row : ℕ} {t₀ t₁ : List ℕ} {r : Result (Walked × Cursor) Stop} where
+  pub typed-attribute : eqb k attribute_kind ≡ true → Walks (attribute_p π (frame_p π d)) w c lim used row t₀ t₁ r → Walks (typed_p π d k) w c lim used row t₀ t₁ r
+  typed-attribute q v = rw q v
+
+  pub typed-body : eqb k attribute_kind ≡ false → Walks (body_p π (frame_p π d) 0 k) w c lim used row t₀ t₁ r → Walks (typed_p π d k) w c lim used row t₀ t₁ r
+  typed-body q v = rw q v
 
 -- ---- a frame behind its type byte, by its head
 
@@ -114,6 +123,15 @@ module _ (π : Profile) (p : Prog Forest) (a k : ℕ) where
         let x : Node = node_of (code_of l.kind) l.w1 l.w2 l.w3 a in
         walks-to (item x end end) _ n (headed c lim (row + 1) g ∙ leaf-run p a n.src.now lim n.at (row + 1) (code_of l.kind) l.w1 l.w2 l.w3) refl
         (λ y room. e ∙ rw y (leaf-words x t₀ row lim le few room)) (λ y. e ∙ rw y refl) (ap length e ∙ put-length w t₀ row _) g.over
+
+    pub body-near : (l : Leaf) {n : Cursor} → Gives (head_p π k) leaf_of c (Ok (l, n)) → row < lim → lim ≤ most_rows → {t₁ : List ℕ}
+        → t₁ ≡ put_if w t₀ row (row_of (node_of (code_of l.kind) l.w1 l.w2 l.w3 a) 1)
+        → Walks (body_p π p a k) w c lim (row + 1) row t₀ t₁ (Ok (record { used = row + 1; kind = l.kind }, n))
+    body-near l g le few e = body-leaf l (record { means = g.means; over = g.over }) le few e
+
+    pub body-array : (n : ℕ) {m : Cursor} → Gives (head_p π k) array_of c (Ok (n, m)) → {t₁ : List ℕ} {r : Result (Walked × Cursor) Stop}
+        → Walks (rest_p p a (holder array_kind n)) w m lim (row + 1) row t₀ t₁ r → Walks (body_p π p a k) w c lim (row + 1) row t₀ t₁ r
+    body-array n g v = body-rest (head.Holder Kind.Array n) (record { means = g.means; over = g.over }) v
 
 -- ---- the frame of an attribute
 

@@ -9,13 +9,14 @@ use Rattle.meaning.specs.Demand.{bytes, line}
 use Rattle.meaning.specs.Text.{Length, count, minus_one}
 use Rattle.meaning.specs.Prog.{Prog, ret, refuse, room, here, ask, bind, run, Out, done, refused, unfinished}
 use Rattle.meaning.specs.ProgLaws.{then, run_bind, When, gives-run, Settled, ends, starts}
-use Rattle.meaning.specs.Kinds.{Profile, kind_of, map_kind, attribute_kind, hello_kind, marker_kind}
+use Rattle.meaning.specs.Kinds.{Profile, kind_of, array_kind, map_kind, attribute_kind, hello_kind, marker_kind}
 use Rattle.meaning.specs.Rows.{Forest, frame_kind, words, rows_in}
 use Rattle.meaning.specs.Frames.{Step, greeting, holder, bulk_p, verbatim_p, chunk_p, sized, length_for, length_p, head_p, body_p, rest_p, carries_p, annotated_p, attribute_p, frame_p, decode_p}
 use Rattle.meaning.specs.Decode.{outcome_of, decode}
 use Rattle.meaning.specs.FramesLaws.{Item, item_of, rest-item}
 use Rattle.meaning.specs.RunLaws.{frame-deep, frame-full, frame-typed, type-short, decode-run, decode_run-is, decode_is}
 use Rattle.kinds.specs.Codes.{code_of}
+use Rattle.kinds.specs.declared.kind.Kind.TheVariants as Kind
 use Rattle.refusal.specs.Numbers.{number_of}
 use Rattle.refusal.specs.declared.Refusal.{Refusal}
 use Rattle.refusal.specs.declared.Stop.{Stop}
@@ -25,13 +26,14 @@ use Rattle.answers.specs.declared.Answer.{Answer}
 use Rattle.walk.specs.declared.walked.Walked.{Walked}
 use Rattle.walk.specs.Walks.{Walks, Wrote}
 use Rattle.walk.specs.Tops.{moded, typed_p, judged_p, call_p}
+use Rattle.heads.specs.declared.Head.{Head}
 use Rattle.heads.specs.declared.Head.TheVariants as head
-use Rattle.heads.specs.Steps.{step_of}
+use Rattle.heads.specs.Steps.{step_of, array_of}
 use Rattle.text.specs.Reads.{Gives, byte_p}
 use Rattle.text3.specs.Hello.{fields_of}
 use Rattle.text3.specs.declared.hello.Greeting.{Greeting}
 use Rattle.walk.proofs.Steps.{typed-stop, choice, framed, chosen, headed}
-use Rattle.walk.proofs.Said.{stopped, walks-done, walks-stopped, walks-stop}
+use Rattle.walk.proofs.Said.{stopped, walks-as, walks-done, walks-stopped, walks-stop}
 
 -- ---- a frame is the same in both modes
 
@@ -126,6 +128,17 @@ module _ (m : Bool) {p : Prog Forest} {c : Cursor} {lim used row : ℕ} {t₀ t�
         let f = walks-done k in
         let q : (m && eqb (frame_kind f.0) marker_kind) ≡ false = ap (λ (j : ℕ). m && eqb j marker_kind) (sym f.2) ∙ ap (λ (b : Bool). m && b) (sym i) ∙ y in
         judged-run m c.src.now lim p c.at used ∙ rw (f.1, q) refl
+
+-- a frame behind its head
+pub judged-body : (π : Profile) (p : Prog Forest) (a k : ℕ) (m : Bool) {c : Cursor} {lim row : ℕ} {t₀ t₁ : List ℕ} (h : Head) {n : Cursor} → Gives (head_p π k) step_of c (Ok (h, n))
+    → {r : Result (Walked × Cursor) Stop} → Walks (judged_p m (rest_p p a (step_of h))) true n lim (row + 1) row t₀ t₁ r → Walks (judged_p m (body_p π p a k)) true c lim (row + 1) row t₀ t₁ r
+judged-body π p a k m {c} {lim} {row} h {n} g v =
+    walks-as g.over refl
+    (judged-run m c.src.now lim (body_p π p a k) c.at (row + 1) ∙ ap (judged m) (headed π p a k c lim (row + 1) g) ∙ sym (judged-run m n.src.now lim (rest_p p a (step_of h)) n.at (row + 1))) v
+
+pub judged-array : (π : Profile) (p : Prog Forest) (a k : ℕ) (m : Bool) {c : Cursor} {lim row : ℕ} {t₀ t₁ : List ℕ} (i : ℕ) {n : Cursor} → Gives (head_p π k) array_of c (Ok (i, n))
+    → {r : Result (Walked × Cursor) Stop} → Walks (judged_p m (rest_p p a (holder array_kind i))) true n lim (row + 1) row t₀ t₁ r → Walks (judged_p m (body_p π p a k)) true c lim (row + 1) row t₀ t₁ r
+judged-array π p a k m i g v = judged-body π p a k m (head.Holder Kind.Array i) (record { means = g.means; over = g.over }) v
 
 -- a frame that is no marker stands
 judged-stands : (m : Bool) (o : Out Forest) → When (λ f n u. frame_kind f ≡ marker_kind → ⊥) o → judged m o ≡ o

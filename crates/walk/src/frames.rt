@@ -8,10 +8,11 @@ ghost use Rattle.kinds.specs.Codes.{code_of, coded};
 ghost use Rattle.heads.specs.Steps.{frames_of};
 ghost use Rattle.walk.specs.Walks.{Walks};
 ghost use Rattle.walk.specs.Keys.{in_pairs, is_judged};
+ghost use Rattle.walk.specs.Tops.{typed_p};
 
 use crate::hello::hello;
 use crate::walked::{Room, Walked, put, put_leaf};
-use heads::{Head, head_of};
+use heads::{Head, head_of, near_array, near_head};
 use kinds::{Kind, Profile};
 use refusal::{Refusal, Stop};
 use rows::Row;
@@ -67,7 +68,20 @@ fn is_fit(judged: bool, kind: Kind) -> bool
     !judged || kind.may_be_key()
 }
 
-/// A frame, with so much depth left. Called from one place, so that it is compiled into the loop over a holder's frames.
+/// The same answer, made again of its parts. What a call gives stands in memory: behind this the loop over frames has it in registers, as it has a leaf's.
+#[inline(always)]
+pub(crate) fn anew<'a>(
+    walk: Result<(Walked, Cursor<'a>), Stop>,
+) -> Result<(Walked, Cursor<'a>), Stop>
+    ensures { result ≡ walk.entry }
+{
+    match walk {
+        Ok((walked, end)) => Ok((walked, end)),
+        Err(stop) => Err(stop),
+    }
+}
+
+/// A frame, with so much depth left. Called from one place, so that it is compiled into the loop over a holder's frames, and the leaves that the next bytes tell with it. Any other is a call of its own.
 #[inline(always)]
 #[cycle(walk)]
 fn frame<'a, P: Profile, const WRITE: bool>(
@@ -86,16 +100,43 @@ fn frame<'a, P: Profile, const WRITE: bool>(
     }
     let (b, next) = c.byte()?;
     let kind = P::kind(b);
-    if is_attribute(kind) {
-        return attribute::<P, WRITE>(next, t, room, depth - 1);
+    if let Some((leaf, end)) = near_head::<P>(kind, next) {
+        put_leaf::<WRITE>(t, room.used, leaf, 0);
+        let walked = Walked {
+            used: room.used + 1,
+            kind: leaf.kind,
+        };
+        return Ok((walked, end));
     }
-    body::<P, WRITE>(kind, next, t, room, depth - 1, 0)
+    if let Some((n, end)) = near_array::<P>(kind, next) {
+        let beneath = depth - 1;
+        return anew(holder::<P, WRITE>(Kind::Array, n, end, t, room, beneath, 0));
+    }
+    anew(typed::<P, WRITE>(kind, next, t, room, depth - 1))
 }
 
-/// A frame behind its type byte, that carries no attribute or one whose row it is told of: `attribute` is word 5. `depth`: what is left for the frames beneath it.
-#[inline(always)]
+/// A frame behind its type byte, or an attribute and its frame. `depth`: what is left for the frames beneath it.
+#[inline(never)]
 #[cycle(walk)]
-pub(crate) fn body<'a, P: Profile, const WRITE: bool>(
+fn typed<'a, P: Profile, const WRITE: bool>(
+    kind: Option<Kind>,
+    c: Cursor<'a>,
+    t: &mut [u64],
+    room: Room,
+    depth: usize,
+) -> Result<(Walked, Cursor<'a>), Stop>
+    requires { room.used < room.lim }
+    ensures { Walks (typed_p P.profile depth (coded kind)) WRITE c.entry room.lim (room.used + 1) room.used t.old t.new result }
+{
+    if is_attribute(kind) {
+        return attribute::<P, WRITE>(c, t, room, depth);
+    }
+    body::<P, WRITE>(kind, c, t, room, depth, 0)
+}
+
+/// A frame's body behind its type byte: it carries no attribute, or one whose row it is told of. `attribute`: word 5.
+#[cycle(walk)]
+fn body<'a, P: Profile, const WRITE: bool>(
     kind: Option<Kind>,
     c: Cursor<'a>,
     t: &mut [u64],

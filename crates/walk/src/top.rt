@@ -1,22 +1,46 @@
 //! One frame from a place of a buffer, into rows that the caller lends.
 ghost use Rattle.std.specs.Prelude.{◌≡◌, ◌+◌, ◌<◌, OnErr, true};
-ghost use Rattle.kinds.specs.Codes.{coded};
+ghost use Rattle.meaning.specs.Frames.{frame_p, rest_p, holder};
+ghost use Rattle.kinds.specs.Codes.{code_of, coded};
+ghost use Rattle.heads.specs.Steps.{frames_of};
 ghost use Rattle.answers.specs.Answers.{Decoded};
 ghost use Rattle.walk.specs.Walks.{Walks};
-ghost use Rattle.walk.specs.Tops.{moded, call_p};
+ghost use Rattle.walk.specs.Tops.{moded, judged_p, call_p};
 
-use crate::frames::{attribute, holder, is_attribute, is_marker};
+use crate::frames::{anew, attribute, holder, is_attribute, is_marker};
 use crate::hello::hello;
 use crate::walked::{Room, Walked, put_leaf};
 use answers::Answer;
-use heads::{Head, head_of};
+use heads::{Head, head_of, near_array, near_head};
 use kinds::{Kind, Profile};
 use refusal::{Refusal, Stop};
 use text::Cursor;
 
-/// The frame at the top, behind its type byte. A leaf's row is written at once, and a HELLO's rows; a holder and an attribute are walked without a row written first, so that what is refused or unfinished leaves t.
-#[inline(always)]
-fn top_frame<'a, P: Profile>(
+/// A holder's frames at the top, and its row: walked without a row written first, so that what is refused or unfinished leaves t.
+#[inline(never)]
+fn top_holder<'a, P: Profile>(
+    kind: Kind,
+    n: u64,
+    c: Cursor<'a>,
+    t: &mut [u64],
+    room: Room,
+    depth: usize,
+    complete: bool,
+) -> Result<(Walked, Cursor<'a>), Stop>
+    requires { room.used < room.lim }
+    ensures walks { Walks (judged_p complete (rest_p (frame_p P.profile depth) 0 (holder (code_of kind) (frames_of (code_of kind) n)))) true c.entry room.lim (room.used + 1) room.used t.old t.new result }
+    ensures kept { OnErr result (t.new ≡ t.old) }
+{
+    let (walked, end) = holder::<P, false>(kind, n, c, t, room, depth, 0)?;
+    if complete & is_marker(walked.kind) {
+        return Err(Stop::Refused(Refusal::Marker, end.at));
+    }
+    holder::<P, true>(kind, n, c, t, room, depth, 0)
+}
+
+/// The frame at the top, behind its type byte, whatever it is. A leaf's row is written at once, and a HELLO's rows; an attribute is walked without a row written first, as a holder is.
+#[inline(never)]
+fn far_frame<'a, P: Profile>(
     kind: Option<Kind>,
     c: Cursor<'a>,
     t: &mut [u64],
@@ -49,14 +73,37 @@ fn top_frame<'a, P: Profile>(
             Ok((walked, next))
         }
         Head::Hello(g) => hello::<true>(g, next, t, room, 0),
-        Head::Holder(kind, n) => {
-            let (walked, end) = holder::<P, false>(kind, n, next, t, room, depth, 0)?;
-            if complete & is_marker(walked.kind) {
-                return Err(Stop::Refused(Refusal::Marker, end.at));
-            }
-            holder::<P, true>(kind, n, next, t, room, depth, 0)
-        }
+        Head::Holder(kind, n) => top_holder::<P>(kind, n, next, t, room, depth, complete),
     }
+}
+
+/// The same: a leaf or the count of an array that the next bytes tell is read here, without the stack that the rest takes.
+#[inline(always)]
+fn top_frame<'a, P: Profile>(
+    kind: Option<Kind>,
+    c: Cursor<'a>,
+    t: &mut [u64],
+    room: Room,
+    depth: usize,
+    complete: bool,
+) -> Result<(Walked, Cursor<'a>), Stop>
+    requires { room.used < room.lim }
+    ensures walks { Walks (call_p P.profile complete depth (coded kind)) true c.entry room.lim (room.used + 1) room.used t.old t.new result }
+    ensures kept { OnErr result (t.new ≡ t.old) }
+{
+    if let Some((near, next)) = near_head::<P>(kind, c) {
+        put_leaf::<true>(t, room.used, near, 0);
+        let walked = Walked {
+            used: room.used + 1,
+            kind: near.kind,
+        };
+        return Ok((walked, next));
+    }
+    if let Some((n, next)) = near_array::<P>(kind, c) {
+        let array = Kind::Array;
+        return anew(top_holder::<P>(array, n, next, t, room, depth, complete));
+    }
+    anew(far_frame::<P>(kind, c, t, room, depth, complete))
 }
 
 /// One frame from a place of src on, its rows in t, with at most `depth` frames in one another; where it is not `complete`, a marker is an answer too. An unfinished or refused decode leaves t as it was.

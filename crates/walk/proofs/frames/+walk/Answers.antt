@@ -1,10 +1,10 @@
 -- A holder's frames, by the loop over frames; a frame under an attribute; an attribute and its frame; a frame's body, by its head; and a frame.
-use Rattle.std.proofs.Common.{arith, refl}
+use Rattle.std.proofs.Common.{arith, refl, sym, ◌∙◌}
 use Rattle.std.proofs.lemmas.Result.{err_from_is_err_and}
 use Rattle.kinds.specs.Codes.{code_of}
 use Rattle.walk.proofs.Said.{walks-within}
 use Rattle.walk.proofs.Keys.{turn-start, turn-used, turn-next, turn-stops, turn-marked, turn-misfit, turn-ends, more_left, none_left}
-use Rattle.walk.proofs.Steps.{frame-0, frame-no-room, frame-stops, frame-attribute, frame-body, body-stops, body-leaf, body-hello, body-rest, annotated-full, annotated-short, annotated-twice, annotated-stops, annotated-dropped, annotated-carried, attribute-stops, attributed}
+use Rattle.walk.proofs.Steps.{frame-0, frame-no-room, frame-stops, frame-rest, typed-attribute, typed-body, body-near, body-array, body-stops, body-leaf, body-hello, body-rest, annotated-full, annotated-short, annotated-twice, annotated-stops, annotated-dropped, annotated-carried, attribute-stops, attributed}
 use Rattle.walk.proofs.frames.+walk.Goals as goal
 
 -- ---- a frame
@@ -20,13 +20,25 @@ frame-returns-in_err-b g t c =
     let q = err_from_is_err_and c.from_residual.result c.from_residual.ensures.1 in
     rw (q.1, q.2) (frame-stops _ _ c.if-depth-eq0.false (omega arith) c.in_err-b.ensures)
 
-pub frame-returns-then-is_attribute : goal.frame-returns-then-is_attribute
-frame-returns-then-is_attribute g t c =
-    frame-attribute _ _ c.if-depth-eq0.false (omega arith) _ c.in_ok-b.ensures c.kind-kind.ensures c.is_attribute.ensures c.if-is_attribute.true c.attribute.ensures
+pub frame-returns-in-Some : goal.frame-returns-in-Some
+frame-returns-in-Some g t c =
+    frame-rest _ _ c.if-depth-eq0.false (omega arith) _ c.in_ok-b.ensures c.kind-kind.ensures (typed-body _ _ _ c.in-Some.ensures.plain (body-near _ _ _ _ _ c.in-Some.ensures.read (omega arith) c.args.room.few c.put_leaf.ensures))
+
+pub frame-returns-in-Some-near_array : goal.frame-returns-in-Some-near_array
+frame-returns-in-Some-near_array g t c =
+    rw c.anew.ensures (frame-rest _ _ c.if-depth-eq0.false (omega arith) _ c.in_ok-b.ensures c.kind-kind.ensures (typed-body _ _ _ c.in-Some-near_array.ensures.plain (body-array _ _ _ _ _ c.in-Some-near_array.ensures.read c.holder.ensures)))
 
 pub frame-returns : goal.frame-returns
 frame-returns g t c =
-    frame-body _ _ c.if-depth-eq0.false (omega arith) _ c.in_ok-b.ensures c.kind-kind.ensures c.is_attribute.ensures c.if-is_attribute.false c.body.ensures
+    rw c.anew-2.ensures (frame-rest _ _ c.if-depth-eq0.false (omega arith) _ c.in_ok-b.ensures c.kind-kind.ensures c.typed.ensures)
+
+-- ---- a frame by its kind
+
+pub typed-returns-then-is_attribute : goal.typed-returns-then-is_attribute
+typed-returns-then-is_attribute g t c = typed-attribute _ _ _ (sym c.is_attribute.ensures ∙ c.if-is_attribute.true) c.attribute.ensures
+
+pub typed-returns : goal.typed-returns
+typed-returns g t c = typed-body _ _ _ (sym c.is_attribute.ensures ∙ c.if-is_attribute.false) c.body.ensures
 
 -- ---- a frame behind its type byte
 

@@ -16,6 +16,9 @@ decreases-attribute g l = 6 * l.depth + 4
 abbrev pub decreases-body : goal.decreases-body
 decreases-body g l = 6 * l.depth + 2
 
+abbrev pub decreases-typed : goal.decreases-typed
+decreases-typed g l = 6 * l.depth + 5
+
 abbrev pub decreases-frame : goal.decreases-frame
 decreases-frame g l = 6 * l.depth
 

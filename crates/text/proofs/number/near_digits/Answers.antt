@@ -1,0 +1,13 @@
+-- `text::number::near_digits` meets its contract: a short line says the same as the line of any length.
+use Rattle.std.proofs.Common.{refl}
+use Rattle.text.proofs.Short.{short-within, short-value, short-count}
+use Rattle.text.proofs.number.near_digits.Goals as goal
+
+pub invariant_of-result : goal.invariant_of-result
+invariant_of-result c = record { within = short-within _ _ c.args.c.within _ _ c.in-Some.ensures }
+
+pub returns-in-Some-clause-value : goal.returns-in-Some-clause-value
+returns-in-Some-clause-value c = record { means = short-value _ _ _ _ c.in-Some.ensures; over = refl }
+
+pub returns-in-Some-clause-count : goal.returns-in-Some-clause-count
+returns-in-Some-clause-count c = λ plain three. record { means = short-count _ _ _ _ c.in-Some.ensures plain three; over = refl }
