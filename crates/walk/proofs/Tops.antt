@@ -170,9 +170,6 @@ hello-stands m π p a k c lim used g {n} v =
 -- ---- a frame by its kind
 
 module _ (π : Profile) (m : Bool) (d k : ℕ) {x : Bool} (i : x ≡ eqb k attribute_kind) {c : Cursor} {lim used row : ℕ} {t₀ t₁ : List ℕ} {r : Result (Walked × Cursor) Stop} where
-  pub call-attribute : x ≡ true → Walks (judged_p m (attribute_p π (frame_p π d))) true c lim used row t₀ t₁ r → Walks (call_p π m d k) true c lim used row t₀ t₁ r
-  call-attribute q v = rw (sym i ∙ q) v
-
   pub call-body : x ≡ false → Walks (judged_p m (body_p π (frame_p π d) 0 k)) true c lim used row t₀ t₁ r → Walks (call_p π m d k) true c lim used row t₀ t₁ r
   call-body q v = rw (sym i ∙ q) v
 

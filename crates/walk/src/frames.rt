@@ -1,29 +1,29 @@
 //! A frame, the frames beneath a holder, and an attribute with its frame: they call one another, and the depth that is left falls. Where WRITE is false a walk only says what it would say.
-ghost use Rattle.std.specs.Prelude.{◌≡◌, ◌+◌, ◌*◌, ◌<◌, ◌||◌, not, ltb, eqb};
+ghost use Rattle.std.specs.Prelude.{◌≡◌, ◌+◌, ◌*◌, ◌<◌, ◌||◌, ◌&&◌, not, ltb, eqb};
 ghost use Rattle.meaning.specs.Choice.{pick};
-ghost use Rattle.meaning.specs.Kinds.{may_key, attribute_kind, marker_kind};
-ghost use Rattle.meaning.specs.Rows.{end};
-ghost use Rattle.meaning.specs.Frames.{frame_p, body_p, rest_p, attribute_p, annotated_p, holder};
+ghost use Rattle.meaning.specs.Kinds.{may_key, may_carry, attribute_kind, marker_kind};
+ghost use Rattle.meaning.specs.Frames.{frame_p, body_p, rest_p, holder};
 ghost use Rattle.kinds.specs.Codes.{code_of, coded};
 ghost use Rattle.heads.specs.Steps.{frames_of};
 ghost use Rattle.walk.specs.Walks.{Walks};
 ghost use Rattle.walk.specs.Keys.{in_pairs, is_judged};
-ghost use Rattle.walk.specs.Tops.{typed_p};
+ghost use Rattle.walk.specs.Tops.{Known, typed_p};
 
-use crate::hello::hello;
+use crate::begin::{Begun, begin_near};
 use crate::walked::{Room, Walked, put, put_leaf};
-use heads::{Head, head_of, near_array, near_head};
+use heads::{near_array, near_head};
 use kinds::{Kind, Profile};
 use refusal::{Refusal, Stop};
 use rows::Row;
 use text::Cursor;
 
-/// Whether it is an attribute's kind.
+/// Whether it is an attribute's kind. RESP2 has none, so that what is done of one is no part of its code.
 #[inline(always)]
-pub(crate) fn is_attribute(kind: Option<Kind>) -> bool
+pub(crate) fn is_attribute<P: Profile>(kind: Option<Kind>) -> bool
+    requires { Known P.profile (coded kind) }
     ensures { result ≡ eqb (coded kind) attribute_kind }
 {
-    kind == Some(Kind::Attribute)
+    P::THREE && kind == Some(Kind::Attribute)
 }
 
 /// Whether it is a marker's kind.
@@ -68,6 +68,13 @@ fn is_fit(judged: bool, kind: Kind) -> bool
     !judged || kind.may_be_key()
 }
 
+/// Whether it carries an attribute and may carry none. `attribute`: word 5.
+fn is_wrong_carrier(attribute: u64, kind: Kind) -> bool
+    ensures { result ≡ (not (eqb attribute 0) && not (may_carry (code_of kind))) }
+{
+    attribute != 0 && !kind.may_carry()
+}
+
 /// The same answer, made again of its parts. What a call gives stands in memory: behind this the loop over frames has it in registers, as it has a leaf's.
 #[inline(always)]
 pub(crate) fn anew<'a>(
@@ -108,33 +115,18 @@ fn frame<'a, P: Profile, const WRITE: bool>(
         };
         return Ok((walked, end));
     }
-    if let Some((n, end)) = near_array::<P>(kind, next) {
-        let beneath = depth - 1;
-        return anew(holder::<P, WRITE>(Kind::Array, n, end, t, room, beneath, 0));
+    if P::THREE {
+        if let Some((n, end)) = near_array::<P>(kind, next) {
+            let beneath = depth - 1;
+            return anew(holder::<P, WRITE>(Kind::Array, n, end, t, room, beneath, 0));
+        }
+        return anew(typed::<P, WRITE>(kind, next, t, room, depth - 1));
     }
-    anew(typed::<P, WRITE>(kind, next, t, room, depth - 1))
+    anew(body::<P, WRITE>(kind, next, t, room, depth - 1, 0))
 }
 
-/// A frame behind its type byte, or an attribute and its frame. `depth`: what is left for the frames beneath it.
-#[inline(never)]
-#[cycle(walk)]
-fn typed<'a, P: Profile, const WRITE: bool>(
-    kind: Option<Kind>,
-    c: Cursor<'a>,
-    t: &mut [u64],
-    room: Room,
-    depth: usize,
-) -> Result<(Walked, Cursor<'a>), Stop>
-    requires { room.used < room.lim }
-    ensures { Walks (typed_p P.profile depth (coded kind)) WRITE c.entry room.lim (room.used + 1) room.used t.old t.new result }
-{
-    if is_attribute(kind) {
-        return attribute::<P, WRITE>(c, t, room, depth);
-    }
-    body::<P, WRITE>(kind, c, t, room, depth, 0)
-}
-
-/// A frame's body behind its type byte: it carries no attribute, or one whose row it is told of. `attribute`: word 5.
+/// A frame's body behind its type byte: it carries no attribute, or one whose row it is told of. Called once by a function, so that it is compiled into it: one call of `holder` there, whether its count is near or not. `attribute`: word 5.
+#[inline(always)]
 #[cycle(walk)]
 fn body<'a, P: Profile, const WRITE: bool>(
     kind: Option<Kind>,
@@ -147,18 +139,56 @@ fn body<'a, P: Profile, const WRITE: bool>(
     requires { room.used < room.lim }
     ensures { Walks (body_p P.profile (frame_p P.profile depth) attribute (coded kind)) WRITE c.entry room.lim (room.used + 1) room.used t.old t.new result }
 {
-    let (head, next) = head_of::<P>(kind, c)?;
-    match head {
-        Head::Leaf(leaf) => {
-            put_leaf::<WRITE>(t, room.used, leaf, attribute);
-            let walked = Walked {
-                used: room.used + 1,
-                kind: leaf.kind,
-            };
-            Ok((walked, next))
+    let (begun, next) = begin_near::<P, WRITE>(kind, c, t, room, attribute)?;
+    match begun {
+        Begun::Frame(walked) => Ok((walked, next)),
+        Begun::Holder(held, n) => {
+            anew(holder::<P, WRITE>(held, n, next, t, room, depth, attribute))
         }
-        Head::Hello(g) => hello::<WRITE>(g, next, t, room, attribute),
-        Head::Holder(kind, n) => holder::<P, WRITE>(kind, n, next, t, room, depth, attribute),
+    }
+}
+
+/// A frame behind its type byte, or an attribute and its frame, which stands at the same depth. `depth`: what is left for the frames beneath it. In a loop, the attribute first, so that both take the same stack.
+#[inline(never)]
+#[cycle(walk)]
+pub(crate) fn typed<'a, P: Profile, const WRITE: bool>(
+    kind: Option<Kind>,
+    c: Cursor<'a>,
+    t: &mut [u64],
+    room: Room,
+    depth: usize,
+) -> Result<(Walked, Cursor<'a>), Stop>
+    requires fits { room.used < room.lim }
+    requires known { Known P.profile (coded kind) }
+    ensures { Walks (typed_p P.profile depth (coded kind)) WRITE c.entry room.lim (room.used + 1) room.used t.old t.new result }
+{
+    let mut part = kind;
+    let mut place = c;
+    let mut used = room.used;
+    let mut attribute: u64 = 0;
+    loop {
+        let left = Room {
+            lim: room.lim,
+            used,
+        };
+        let (walked, end) = body::<P, WRITE>(part, place, t, left, depth, attribute)?;
+        if !is_attribute::<P>(part) {
+            if is_wrong_carrier(attribute, walked.kind) {
+                return Err(Stop::Refused(Refusal::Carrier, end.at));
+            }
+            return Ok((walked, end));
+        }
+        if room.lim <= walked.used {
+            return Err(Stop::Refused(Refusal::Rows, end.at));
+        }
+        let (b, behind) = end.byte()?;
+        part = P::kind(b);
+        if is_attribute::<P>(part) {
+            return Err(Stop::Refused(Refusal::Attribute, behind.at));
+        }
+        place = behind;
+        used = walked.used;
+        attribute = room.used as u64 + 1;
     }
 }
 
@@ -214,49 +244,4 @@ pub(crate) fn holder<'a, P: Profile, const WRITE: bool>(
         },
     );
     Ok((Walked { used, kind }, place))
-}
-
-/// An attribute behind its type byte, and the frame that it belongs to.
-#[cycle(walk)]
-pub(crate) fn attribute<'a, P: Profile, const WRITE: bool>(
-    c: Cursor<'a>,
-    t: &mut [u64],
-    room: Room,
-    depth: usize,
-) -> Result<(Walked, Cursor<'a>), Stop>
-    requires { room.used < room.lim }
-    ensures { Walks (attribute_p P.profile (frame_p P.profile depth)) WRITE c.entry room.lim (room.used + 1) room.used t.old t.new result }
-{
-    let (walked, next) = body::<P, WRITE>(Some(Kind::Attribute), c, t, room, depth, 0)?;
-    let left = Room {
-        lim: room.lim,
-        used: walked.used,
-    };
-    annotated::<P, WRITE>(next, t, left, depth, room.used as u64 + 1)
-}
-
-/// The frame that an attribute belongs to, at the same depth. `attribute`: 1 + the index of the attribute's row.
-#[cycle(walk)]
-fn annotated<'a, P: Profile, const WRITE: bool>(
-    c: Cursor<'a>,
-    t: &mut [u64],
-    room: Room,
-    depth: usize,
-    attribute: u64,
-) -> Result<(Walked, Cursor<'a>), Stop>
-    ensures { Walks (annotated_p P.profile (frame_p P.profile depth) attribute end) WRITE c.entry room.lim room.used room.used t.old t.new result }
-{
-    if room.lim <= room.used {
-        return Err(Stop::Refused(Refusal::Rows, c.at));
-    }
-    let (b, next) = c.byte()?;
-    let kind = P::kind(b);
-    if is_attribute(kind) {
-        return Err(Stop::Refused(Refusal::Attribute, next.at));
-    }
-    let (walked, behind) = body::<P, WRITE>(kind, next, t, room, depth, attribute)?;
-    if !walked.kind.may_carry() {
-        return Err(Stop::Refused(Refusal::Carrier, behind.at));
-    }
-    Ok((walked, behind))
 }

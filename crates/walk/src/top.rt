@@ -5,9 +5,9 @@ ghost use Rattle.kinds.specs.Codes.{code_of, coded};
 ghost use Rattle.heads.specs.Steps.{frames_of};
 ghost use Rattle.answers.specs.Answers.{Decoded};
 ghost use Rattle.walk.specs.Walks.{Walks};
-ghost use Rattle.walk.specs.Tops.{moded, judged_p, call_p};
+ghost use Rattle.walk.specs.Tops.{Known, moded, judged_p, call_p};
 
-use crate::frames::{anew, attribute, holder, is_attribute, is_marker};
+use crate::frames::{anew, holder, is_attribute, is_marker, typed};
 use crate::hello::hello;
 use crate::walked::{Room, Walked, put_leaf};
 use answers::Answer;
@@ -48,16 +48,17 @@ fn far_frame<'a, P: Profile>(
     depth: usize,
     complete: bool,
 ) -> Result<(Walked, Cursor<'a>), Stop>
-    requires { room.used < room.lim }
+    requires fits { room.used < room.lim }
+    requires known { Known P.profile (coded kind) }
     ensures walks { Walks (call_p P.profile complete depth (coded kind)) true c.entry room.lim (room.used + 1) room.used t.old t.new result }
     ensures kept { OnErr result (t.new ≡ t.old) }
 {
-    if is_attribute(kind) {
-        let (carrier, end) = attribute::<P, false>(c, t, room, depth)?;
+    if is_attribute::<P>(kind) {
+        let (carrier, end) = typed::<P, false>(kind, c, t, room, depth)?;
         if complete & is_marker(carrier.kind) {
             return Err(Stop::Refused(Refusal::Marker, end.at));
         }
-        return attribute::<P, true>(c, t, room, depth);
+        return typed::<P, true>(kind, c, t, room, depth);
     }
     let (head, next) = head_of::<P>(kind, c)?;
     match head {
@@ -87,7 +88,8 @@ fn top_frame<'a, P: Profile>(
     depth: usize,
     complete: bool,
 ) -> Result<(Walked, Cursor<'a>), Stop>
-    requires { room.used < room.lim }
+    requires fits { room.used < room.lim }
+    requires known { Known P.profile (coded kind) }
     ensures walks { Walks (call_p P.profile complete depth (coded kind)) true c.entry room.lim (room.used + 1) room.used t.old t.new result }
     ensures kept { OnErr result (t.new ≡ t.old) }
 {

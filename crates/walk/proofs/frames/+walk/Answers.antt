@@ -1,10 +1,11 @@
 -- A holder's frames, by the loop over frames; a frame under an attribute; an attribute and its frame; a frame's body, by its head; and a frame.
-use Rattle.std.proofs.Common.{arith, refl, sym, ◌∙◌}
+use Rattle.std.proofs.Common.{rules, arith, refl, sym, ◌∙◌}
 use Rattle.std.proofs.lemmas.Result.{err_from_is_err_and}
 use Rattle.kinds.specs.Codes.{code_of}
 use Rattle.walk.proofs.Said.{walks-within}
 use Rattle.walk.proofs.Keys.{turn-start, turn-used, turn-next, turn-stops, turn-marked, turn-misfit, turn-ends, more_left, none_left}
-use Rattle.walk.proofs.Steps.{frame-0, frame-no-room, frame-stops, frame-rest, typed-attribute, typed-body, body-near, body-array, body-stops, body-leaf, body-hello, body-rest, annotated-full, annotated-short, annotated-twice, annotated-stops, annotated-dropped, annotated-carried, attribute-stops, attributed}
+use Rattle.walk.proofs.Steps.{frame-0, frame-no-room, frame-stops, frame-rest, typed-body, body-near, body-array, body-rest}
+use Rattle.walk.proofs.Parts.{own, known, part-stops, part-dropped, part-ends, part-full, part-short, part-twice, part-next}
 use Rattle.walk.proofs.frames.+walk.Goals as goal
 
 -- ---- a frame
@@ -28,33 +29,71 @@ pub frame-returns-in-Some-near_array : goal.frame-returns-in-Some-near_array
 frame-returns-in-Some-near_array g t c =
     rw c.anew.ensures (frame-rest _ _ c.if-depth-eq0.false (omega arith) _ c.in_ok-b.ensures c.kind-kind.ensures (typed-body _ _ _ c.in-Some-near_array.ensures.plain (body-array _ _ _ _ _ c.in-Some-near_array.ensures.read c.holder.ensures)))
 
+pub frame-typed-requires : goal.frame-typed-requires
+frame-typed-requires g t c = let k = known _ _ _ c.kind-kind.ensures in search rules
+
+pub frame-returns-then-THREE : goal.frame-returns-then-THREE
+frame-returns-then-THREE g t c =
+    rw c.anew-then-THREE.ensures (frame-rest _ _ c.if-depth-eq0.false (omega arith) _ c.in_ok-b.ensures c.kind-kind.ensures c.typed.ensures)
+
 pub frame-returns : goal.frame-returns
 frame-returns g t c =
-    rw c.anew-2.ensures (frame-rest _ _ c.if-depth-eq0.false (omega arith) _ c.in_ok-b.ensures c.kind-kind.ensures c.typed.ensures)
-
--- ---- a frame by its kind
-
-pub typed-returns-then-is_attribute : goal.typed-returns-then-is_attribute
-typed-returns-then-is_attribute g t c = typed-attribute _ _ _ (sym c.is_attribute.ensures ∙ c.if-is_attribute.true) c.attribute.ensures
-
-pub typed-returns : goal.typed-returns
-typed-returns g t c = typed-body _ _ _ (sym c.is_attribute.ensures ∙ c.if-is_attribute.false) c.body.ensures
+    rw c.anew-2.ensures (frame-rest _ _ c.if-depth-eq0.false (omega arith) _ c.in_ok-b.ensures c.kind-kind.ensures (typed-body _ _ _ (known _ _ _ c.kind-kind.ensures (g.met.P.Profile.three ∙ sym c.THREE.ensures ∙ c.if-THREE.false)) c.body.ensures))
 
 -- ---- a frame behind its type byte
 
-pub body-returns-in_err-head : goal.body-returns-in_err-head
-body-returns-in_err-head g t c =
+pub body-returns-in_err-begun : goal.body-returns-in_err-begun
+body-returns-in_err-begun g t c =
     let q = err_from_is_err_and c.from_residual.result c.from_residual.ensures.1 in
-    rw (q.1, q.2) (body-stops _ _ _ _ c.in_err-head.ensures)
+    rw (q.1, q.2) (c.in_err-begun.ensures _)
 
-pub body-returns-in-Leaf : goal.body-returns-in-Leaf
-body-returns-in-Leaf g t c = body-leaf _ _ _ _ _ (rw c.in-Leaf.is at c.in_ok-head.ensures) c.requires c.args.room.few c.put_leaf.ensures
-
-pub body-returns-in-Hello : goal.body-returns-in-Hello
-body-returns-in-Hello g t c = body-hello _ _ _ _ _ (rw c.in-Hello.is at c.in_ok-head.ensures) c.hello.ensures.walks
+pub body-returns-in-Frame : goal.body-returns-in-Frame
+body-returns-in-Frame g t c = (rw c.in-Frame.is at c.in_ok-begun.ensures) _
 
 pub body-returns-in-Holder : goal.body-returns-in-Holder
-body-returns-in-Holder g t c = body-rest _ _ _ _ _ (rw c.in-Holder.is at c.in_ok-head.ensures) c.holder.ensures
+body-returns-in-Holder g t c =
+    let h = rw c.in-Holder.is at c.in_ok-begun.ensures in
+    rw c.anew.ensures (body-rest _ _ _ _ _ h.0 (rw h.1 at c.holder.ensures))
+
+-- ---- a frame by its kind
+
+pub typed-loop-walked-init : goal.typed-loop-walked-init
+typed-loop-walked-init g t c = (c.requires.fits, c.requires.known, own refl refl refl refl refl)
+
+pub typed-returns-in_err-walked : goal.typed-returns-in_err-walked
+typed-returns-in_err-walked g t c =
+    let q = err_from_is_err_and c.from_residual.result c.from_residual.ensures.1 in
+    rw (q.1, q.2) (part-stops _ _ _ c.loop-walked.invariant.0 c.loop-walked.invariant.2 c.in_err-walked.ensures)
+
+pub typed-returns-then-is_wrong_carrier : goal.typed-returns-then-is_wrong_carrier
+typed-returns-then-is_wrong_carrier g t c =
+    part-dropped _ _ _ c.loop-walked.invariant.2 c.in_ok-walked.ensures c.loop-walked.invariant.0 (sym c.is_wrong_carrier.ensures ∙ c.if-is_wrong_carrier.true)
+
+pub typed-returns-then-not-is_attribute : goal.typed-returns-then-not-is_attribute
+typed-returns-then-not-is_attribute g t c =
+    part-ends _ _ _ c.loop-walked.invariant.2 c.in_ok-walked.ensures c.loop-walked.invariant.0 (sym c.is_attribute.ensures ∙ c.if-not-is_attribute.true) (sym c.is_wrong_carrier.ensures ∙ c.if-is_wrong_carrier.false)
+
+pub typed-returns-then-room-walked : goal.typed-returns-then-room-walked
+typed-returns-then-room-walked g t c =
+    part-full _ _ _ c.loop-walked.invariant.2 c.in_ok-walked.ensures (sym c.is_attribute.ensures ∙ c.if-not-is_attribute.false) c.if-room-walked.true
+
+pub typed-returns-in_err-b : goal.typed-returns-in_err-b
+typed-returns-in_err-b g t c =
+    let q = err_from_is_err_and c.from_residual-in_err-b.result c.from_residual-in_err-b.ensures.1 in
+    rw (q.1, q.2) (part-short _ _ _ c.loop-walked.invariant.2 c.in_ok-walked.ensures (sym c.is_attribute.ensures ∙ c.if-not-is_attribute.false) (omega arith) c.in_err-b.ensures)
+
+pub typed-is_attribute-requires-in-loop-walked : goal.typed-is_attribute-requires-in-loop-walked
+typed-is_attribute-requires-in-loop-walked g t c = known _ _ _ c.kind-part.ensures
+
+pub typed-returns-then-is_attribute : goal.typed-returns-then-is_attribute
+typed-returns-then-is_attribute g t c =
+    part-twice _ _ _ c.loop-walked.invariant.2 c.in_ok-walked.ensures (sym c.is_attribute.ensures ∙ c.if-not-is_attribute.false) _ c.in_ok-b.ensures c.kind-part.ensures (omega arith) (sym c.is_attribute-in-loop-walked.ensures ∙ c.if-is_attribute.true)
+
+pub typed-loop-walked-preserved : goal.typed-loop-walked-preserved
+typed-loop-walked-preserved g t c =
+    let other = sym c.is_attribute-in-loop-walked.ensures ∙ c.if-is_attribute.false in
+    (omega arith, known _ _ _ c.kind-part.ensures,
+     part-next _ _ _ c.loop-walked.invariant.2 c.in_ok-walked.ensures (sym c.is_attribute.ensures ∙ c.if-not-is_attribute.false) _ c.in_ok-b.ensures c.kind-part.ensures refl other)
 
 -- ---- a holder's frames
 
@@ -88,42 +127,3 @@ pub holder-returns : goal.holder-returns
 holder-returns g t c =
     let none = none_left (code_of c.args.kind) c.loop-left.read c.args.n c.in_pairs-pairs.ensures c.is_more.ensures c.loop-left-test.false in
     turn-ends c.loop-left.invariant.3 _ none c.if-not-fit.false c.requires c.args.room.few c.args.kind refl (rw c.code.ensures at c.put.ensures)
-
--- ---- the frame of an attribute
-
-pub annotated-returns-then-room : goal.annotated-returns-then-room
-annotated-returns-then-room g t c = annotated-full _ _ _ c.if-room.true
-
-pub annotated-returns-in_err-b : goal.annotated-returns-in_err-b
-annotated-returns-in_err-b g t c =
-    let q = err_from_is_err_and c.from_residual.result c.from_residual.ensures.1 in
-    rw (q.1, q.2) (annotated-short _ _ _ (omega arith) c.in_err-b.ensures)
-
-pub annotated-returns-then-is_attribute : goal.annotated-returns-then-is_attribute
-annotated-returns-then-is_attribute g t c = annotated-twice _ _ _ (omega arith) _ c.in_ok-b.ensures c.kind-kind.ensures c.is_attribute.ensures c.if-is_attribute.true
-
-pub annotated-returns-in_err-walked : goal.annotated-returns-in_err-walked
-annotated-returns-in_err-walked g t c =
-    let q = err_from_is_err_and c.from_residual-in_err-walked.result c.from_residual-in_err-walked.ensures.1 in
-    rw (q.1, q.2) (annotated-stops _ _ _ (omega arith) _ c.in_ok-b.ensures c.kind-kind.ensures c.is_attribute.ensures c.if-is_attribute.false c.in_err-walked.ensures)
-
-pub annotated-returns-then-not-may_carry : goal.annotated-returns-then-not-may_carry
-annotated-returns-then-not-may_carry g t c =
-    annotated-dropped _ _ _ (omega arith) _ c.in_ok-b.ensures c.kind-kind.ensures c.is_attribute.ensures c.if-is_attribute.false c.in_ok-walked.ensures c.may_carry.ensures c.if-not-may_carry.true
-
-pub annotated-returns : goal.annotated-returns
-annotated-returns g t c =
-    annotated-carried _ _ _ (omega arith) _ c.in_ok-b.ensures c.kind-kind.ensures c.is_attribute.ensures c.if-is_attribute.false c.in_ok-walked.ensures c.may_carry.ensures c.if-not-may_carry.false
-
--- ---- an attribute and its frame
-
-pub attribute-returns-in_err-walked : goal.attribute-returns-in_err-walked
-attribute-returns-in_err-walked g t c =
-    let q = err_from_is_err_and c.from_residual.result c.from_residual.ensures.1 in
-    rw (q.1, q.2) (attribute-stops _ _ c.in_err-walked.ensures)
-
-pub attribute-invariant_of-left : goal.attribute-invariant_of-left
-attribute-invariant_of-left g t c = record { counted = (walks-within c.in_ok-walked.ensures (omega arith)).rows; few = c.args.room.few }
-
-pub attribute-returns : goal.attribute-returns
-attribute-returns g t c = attributed _ _ c.in_ok-walked.ensures c.annotated.ensures

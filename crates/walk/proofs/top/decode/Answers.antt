@@ -1,6 +1,7 @@
 -- The whole call: its answer, and what it leaves in the table, by the walk of its top frame.
 use Rattle.std.proofs.Common.{arith}
 use Rattle.std.proofs.lemmas.Result.{err_from_is_err_and}
+use Rattle.walk.proofs.Parts.{known}
 use Rattle.walk.proofs.Tops.{decoded-deep, decoded-full, decoded-past, decoded-short, decoded-stops, decoded-behind, decoded-marked, decoded-framed}
 use Rattle.walk.proofs.top.decode.Goals as goal
 
@@ -17,6 +18,9 @@ pub returns-in_err-b : goal.returns-in_err-b
 returns-in_err-b g c =
     let q = err_from_is_err_and c.from_residual.result c.from_residual.ensures.1 in
     rw (q.1, q.2) (decoded-short g.P.Profile.profile c.args.complete _ c.if-depth-eq0.false _ (omega arith) _ _ c.rows_of-lim.ensures c.in_err-b.ensures)
+
+pub top_frame-requires-clause-known : goal.top_frame-requires-clause-known
+top_frame-requires-clause-known g c = known _ _ _ c.kind.ensures
 
 pub returns-in_err-walked : goal.returns-in_err-walked
 returns-in_err-walked g c =

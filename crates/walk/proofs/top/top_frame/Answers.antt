@@ -10,9 +10,9 @@ use Rattle.walk.proofs.top.top_frame.Goals as goal
 pub returns-in-Some-clause-walks : goal.returns-in-Some-clause-walks
 returns-in-Some-clause-walks g c =
     let read = c.in-Some.ensures.read in
-    let dry = body-near _ _ _ _ {w = false} {t₀ = c.args.t.now} _ read c.requires c.args.room.few refl in
+    let dry = body-near _ _ _ _ {w = false} {t₀ = c.args.t.now} _ read c.requires.fits c.args.room.few refl in
     call-body _ _ _ _ refl c.in-Some.ensures.plain
-    (walks-as refl refl (dry-stands _ (sym c.in-Some.ensures.unmarked) dry (and-false _)) (body-near _ _ _ _ _ read c.requires c.args.room.few c.put_leaf.ensures))
+    (walks-as refl refl (dry-stands _ (sym c.in-Some.ensures.unmarked) dry (and-false _)) (body-near _ _ _ _ _ read c.requires.fits c.args.room.few c.put_leaf.ensures))
 
 pub returns-in-Some-near_array-clause-walks : goal.returns-in-Some-near_array-clause-walks
 returns-in-Some-near_array-clause-walks g c =
