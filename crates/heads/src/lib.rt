@@ -16,7 +16,7 @@ use leaf::{Leaf, absent, bulk, count, number, text_line};
 use leaf3::{blank, boolean, chunk, double, verbatim};
 use refusal::{Refusal, Stop};
 use text::Cursor;
-use text::number::near_digits;
+use text::number::{near_digits, near_number};
 use text3::hello::Greeting;
 
 /// What a frame's first lines say.
@@ -172,7 +172,7 @@ pub fn near_head<'a, P: Profile>(kind: Option<Kind>, c: Cursor<'a>) -> Option<(L
 {
     match kind {
         Some(Kind::Number) => {
-            if let Some((value, next)) = near_digits(c) {
+            if let Some((value, next)) = near_number(c) {
                 let leaf = Leaf {
                     kind: Kind::Number,
                     w1: value,
