@@ -109,28 +109,18 @@ fn near_double<'a>(c: Cursor<'a>) -> Option<(Leaf, Cursor<'a>)>
     None
 }
 
-/// A frame of one line that is there and is what its kind asks for, behind its type byte. None: nothing is said.
+/// A frame of one line of a kind that RESP3 alone has, and that is there and is what its kind asks for, behind its type byte. None: nothing is said.
 #[tactic(auto, using(text::proofs::Chain::reading), unfolding(meaning::specs::Frames::head_p))]
 #[inline(always)]
-fn near_line<'a, P: Profile>(kind: Option<Kind>, c: Cursor<'a>) -> Option<(Leaf, Cursor<'a>)>
+fn near_word<'a, P: Profile>(kind: Option<Kind>, c: Cursor<'a>) -> Option<(Leaf, Cursor<'a>)>
     ensures plain { IfSome result (λ r. eqb (coded kind) attribute_kind ≡ false) }
     ensures unmarked { IfSome result (λ r. eqb (code_of r.0.kind) marker_kind ≡ false) }
     ensures read { IfSome result (λ r. Gives (head_p P.profile (coded kind)) leaf_of c.entry (Ok r)) }
 {
+    if !P::THREE {
+        return None;
+    }
     match kind {
-        Some(Kind::SimpleString | Kind::SimpleError) => {
-            let from = c.at;
-            if let Ok((text, next)) = c.line() {
-                let leaf = Leaf {
-                    kind: kind?,
-                    w1: from as u64,
-                    w2: (from + text.len()) as u64,
-                    w3: 0,
-                };
-                return Some((leaf, next));
-            }
-            None
-        }
         Some(Kind::Null) => {
             if let Ok((_, next)) = c.line() {
                 let leaf = Leaf {
@@ -159,6 +149,32 @@ fn near_line<'a, P: Profile>(kind: Option<Kind>, c: Cursor<'a>) -> Option<(Leaf,
         }
         Some(Kind::Double) => near_double(c),
         _ => None,
+    }
+}
+
+/// A frame of one line that is there and is what its kind asks for, behind its type byte. None: nothing is said.
+#[tactic(auto, using(text::proofs::Chain::reading), unfolding(meaning::specs::Frames::head_p))]
+#[inline(always)]
+fn near_line<'a, P: Profile>(kind: Option<Kind>, c: Cursor<'a>) -> Option<(Leaf, Cursor<'a>)>
+    ensures plain { IfSome result (λ r. eqb (coded kind) attribute_kind ≡ false) }
+    ensures unmarked { IfSome result (λ r. eqb (code_of r.0.kind) marker_kind ≡ false) }
+    ensures read { IfSome result (λ r. Gives (head_p P.profile (coded kind)) leaf_of c.entry (Ok r)) }
+{
+    match kind {
+        Some(Kind::SimpleString | Kind::SimpleError) => {
+            let from = c.at;
+            if let Ok((text, next)) = c.line() {
+                let leaf = Leaf {
+                    kind: kind?,
+                    w1: from as u64,
+                    w2: (from + text.len()) as u64,
+                    w3: 0,
+                };
+                return Some((leaf, next));
+            }
+            None
+        }
+        _ => near_word::<P>(kind, c),
     }
 }
 

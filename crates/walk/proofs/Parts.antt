@@ -1,7 +1,7 @@
 -- A frame, or an attribute and then the frame that it belongs to: the loop over such parts.
 use Rattle.std.specs.Prelude.{◌≡◌, Bool, true, false, ◌&&◌, not, ℕ, ◌+◌, ◌≤◌, ◌<◌, List, Result, Ok, Err, eqb}
 use Rattle.std.proofs.Common.{refl, sym, ap, subst, ◌∙◌, arith, ne_eqb}
-use borrow.Author.Tests.{eqb-true, eqb-false}
+use borrow.Author.Tests.{eqb-true}
 use Rattle.meaning.specs.Choice.{pick}
 use Rattle.meaning.specs.Kinds.{Profile, kind_of, lookup, may_carry, simple_string_kind, simple_error_kind, number_kind, blob_string_kind, array_kind, attribute_kind}
 use Rattle.meaning.specs.Frames.{body_p, frame_p}

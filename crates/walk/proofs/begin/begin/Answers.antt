@@ -1,5 +1,4 @@
 -- The beginning of a frame, by its head.
-use Rattle.std.proofs.Common.{refl}
 use Rattle.std.proofs.lemmas.Result.{err_from_is_err_and}
 use Rattle.walk.proofs.Steps.{body-stops, body-leaf, body-hello}
 use Rattle.walk.proofs.begin.begin.Goals as goal

@@ -2,7 +2,6 @@
 use Rattle.std.proofs.Common.{rules, arith, refl, sym, ◌∙◌}
 use Rattle.std.proofs.lemmas.Result.{err_from_is_err_and}
 use Rattle.kinds.specs.Codes.{code_of}
-use Rattle.walk.proofs.Said.{walks-within}
 use Rattle.walk.proofs.Keys.{turn-start, turn-used, turn-next, turn-stops, turn-marked, turn-misfit, turn-ends, more_left, none_left}
 use Rattle.walk.proofs.Steps.{frame-0, frame-no-room, frame-stops, frame-rest, typed-body, body-near, body-array, body-rest}
 use Rattle.walk.proofs.Parts.{own, known, part-stops, part-dropped, part-ends, part-full, part-short, part-twice, part-next}
@@ -91,9 +90,11 @@ typed-returns-then-is_attribute g t c =
 
 pub typed-loop-walked-preserved : goal.typed-loop-walked-preserved
 typed-loop-walked-preserved g t c =
-    let other = sym c.is_attribute-in-loop-walked.ensures ∙ c.if-is_attribute.false in
-    (omega arith, known _ _ _ c.kind-part.ensures,
-     part-next _ _ _ c.loop-walked.invariant.2 c.in_ok-walked.ensures (sym c.is_attribute.ensures ∙ c.if-not-is_attribute.false) _ c.in_ok-b.ensures c.kind-part.ensures refl other)
+    let other = sym c.is_attribute-in-loop-walked.ensures ∙ c.if-is_attribute.false in (
+      omega arith,
+      known _ _ _ c.kind-part.ensures,
+      part-next _ _ _ c.loop-walked.invariant.2 c.in_ok-walked.ensures (sym c.is_attribute.ensures ∙ c.if-not-is_attribute.false) _ c.in_ok-b.ensures c.kind-part.ensures refl other,
+    )
 
 -- ---- a holder's frames
 

@@ -1,5 +1,5 @@
 -- The measures: four for each frame that may still stand in another, and less than four more by the function that has as many left. The loop: the frames so far, with their keys or members judged.
-use Rattle.std.specs.Prelude.{◌≡◌, ◌+◌, ◌-◌, ◌*◌, ◌≤◌, ◌<◌, eqb}
+use Rattle.std.specs.Prelude.{◌+◌, ◌-◌, ◌*◌, ◌≤◌, ◌<◌, eqb}
 use denote.Param.{number}
 use Rattle.meaning.specs.Choice.{pick}
 use Rattle.meaning.specs.Kinds.{attribute_kind}

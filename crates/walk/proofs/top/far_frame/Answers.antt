@@ -3,7 +3,7 @@ use Rattle.std.specs.Prelude.{◌≡◌, false}
 use Rattle.std.proofs.Common.{refl}
 use Rattle.std.proofs.lemmas.Result.{err_from_is_err_and}
 use Rattle.walk.proofs.Said.{walks-as}
-use Rattle.walk.proofs.Steps.{body-stops, body-leaf, body-hello, body-rest}
+use Rattle.walk.proofs.Steps.{body-stops, body-leaf, body-hello}
 use Rattle.walk.proofs.Tops.{dry-stops, dry-marked, dry-stands, hello-stands, judged-body, call-body}
 use Rattle.walk.proofs.top.far_frame.Goals as goal
 
