@@ -13,6 +13,7 @@ const SOURCE: u64 = 4294967295;
 pub struct Table<'a> {
     pub source: &'a [u8],
     pub words: &'a [u64],
+    /// Whether integers are bulk strings. A bool, as the C interface has it.
     pub flag: bool,
     pub ghost short: { length source.now ≤ source_limit },
     pub ghost few: { length words.now ≤ row_width * most_rows },

@@ -137,7 +137,7 @@ impl Kind {
         self as u64 + 1
     }
 
-    /// The kind that a code names.
+    /// The kind that a code names. By a `match`, not `TryFrom`: a code is what a row's word holds, and no error says more than that there is no such kind.
     #[inline(always)]
     pub fn from_code(code: u64) -> Option<Kind>
         ensures { coded result ≡ pick (ltb code 23) code 0 }

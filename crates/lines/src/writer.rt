@@ -170,7 +170,7 @@ impl<'a> Writer<'a> {
         self.end();
     }
 
-    /// The same as a bulk string.
+    /// The same as a bulk string. Beside `bulk`: its text stands in no source, and one function for both would be no plainer.
     #[inline(always)]
     #[tactic(auto, using(crate::proofs::Rules::puts))]
     fn bulk_integer<P: Profile>(&mut self, word: u64)
