@@ -1,1 +1,2 @@
--- Laws.
+-- The kinds that are a text behind its length.
+mod Groups

@@ -3,12 +3,11 @@ use Rattle.std.specs.Prelude.{ℕ, ◌*◌, ◌||◌, eqb}
 use Rattle.meaning.specs.Choice.{pick}
 use Rattle.meaning.specs.Prog.{Prog}
 use Rattle.meaning.specs.Kinds.{resp3, map_kind, attribute_kind, verbatim_kind, chunked_string_kind}
-use Rattle.meaning.specs.Frames.{Step, leaf, greeting, holder, bulk_p, verbatim_p, chunk_p}
+use Rattle.meaning.specs.Frames.{Step, greeting, holder, bulk_p, verbatim_p, chunk_p}
 use Rattle.kinds.specs.Codes.{code_of}
 use Rattle.text3.specs.Hello.{fields_of}
 use Rattle.leaf.specs.Leaves.{leaf_of}
 use Rattle.heads.specs.declared.Head.{Head}
-use Rattle.heads.specs.declared.Head.TheVariants as Head
 
 -- how many frames a count on the wire is of: two to a pair
 abbrev pub frames_of : ℕ → ℕ → ℕ

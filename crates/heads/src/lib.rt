@@ -11,7 +11,8 @@ ghost use Rattle.leaf.specs.Leaves.{leaf_of};
 ghost use Rattle.heads.specs.Steps.{step_of, sized_p};
 
 use kinds::{Kind, Profile};
-use leaf::Leaf;
+use leaf::{Leaf, absent, bulk, count, number, text_line};
+use leaf3::{blank, boolean, chunk, double, verbatim};
 use refusal::{Refusal, Stop};
 use text::Cursor;
 use text3::hello::Greeting;
@@ -43,9 +44,9 @@ fn text<'a>(c: Cursor<'a>, kind: Kind, n: u64) -> Result<(Leaf, Cursor<'a>), Sto
     ensures { Gives (sized_p (code_of kind) n) leaf_of c.entry result }
 {
     match kind {
-        Kind::Verbatim => leaf3::verbatim(c, n),
-        Kind::ChunkedString => leaf3::chunk(c, n),
-        _ => leaf::bulk(c, kind, n),
+        Kind::Verbatim => verbatim(c, n),
+        Kind::ChunkedString => chunk(c, n),
+        _ => bulk(c, kind, n),
     }
 }
 
@@ -55,10 +56,10 @@ fn text<'a>(c: Cursor<'a>, kind: Kind, n: u64) -> Result<(Leaf, Cursor<'a>), Sto
 fn sized<'a, P: Profile>(c: Cursor<'a>, kind: Kind) -> Result<(Leaf, Cursor<'a>), Stop>
     ensures { Gives (length_p P.profile (code_of kind) (sized_p (code_of kind))) leaf_of c.entry result }
 {
-    let (length, next) = leaf::count::<P>(kind, c)?;
+    let (length, next) = count::<P>(kind, c)?;
     match length {
         Some(n) => text(next, kind, n),
-        None => Ok((leaf::absent::<P>(kind), next)),
+        None => Ok((absent::<P>(kind), next)),
     }
 }
 
@@ -68,16 +69,16 @@ fn sized<'a, P: Profile>(c: Cursor<'a>, kind: Kind) -> Result<(Leaf, Cursor<'a>)
 fn holder<'a, P: Profile>(c: Cursor<'a>, kind: Kind) -> Result<(Head, Cursor<'a>), Stop>
     ensures { Gives (holder_p P.profile (code_of kind)) step_of c.entry result }
 {
-    let (length, next) = leaf::count::<P>(kind, c)?;
+    let (length, next) = count::<P>(kind, c)?;
     match length {
         Some(n) => Ok((Head::Holder(kind, n), next)),
-        None => Ok((Head::Leaf(leaf::absent::<P>(kind)), next)),
+        None => Ok((Head::Leaf(absent::<P>(kind)), next)),
     }
 }
 
 /// HELLO's line, behind its H.
 #[inline(always)]
-fn hello<'a>(c: Cursor<'a>) -> Result<(Head, Cursor<'a>), Stop>
+fn greeting<'a>(c: Cursor<'a>) -> Result<(Head, Cursor<'a>), Stop>
     ensures { Gives (hello_p resp3) step_of c.entry result }
 {
     let (greeting, next) = leaf3::hello(c)?;
@@ -85,25 +86,28 @@ fn hello<'a>(c: Cursor<'a>) -> Result<(Head, Cursor<'a>), Stop>
 }
 
 /// A frame's first lines, behind its type byte; none: the protocol has no such byte.
-#[tactic(auto, unfolding(meaning::specs::Frames::head_p))]
+#[tactic(auto, using(text::proofs::Chain::reads_refuse), unfolding(meaning::specs::Frames::head_p))]
 #[inline(always)]
-pub fn head_of<'a, P: Profile>(kind: Option<Kind>, c: Cursor<'a>) -> Result<(Head, Cursor<'a>), Stop>
+pub fn head_of<'a, P: Profile>(
+    kind: Option<Kind>,
+    c: Cursor<'a>,
+) -> Result<(Head, Cursor<'a>), Stop>
     ensures { Gives (head_p P.profile (coded kind)) step_of c.entry result }
 {
     let Some(kind) = kind else {
         return Err(Stop::Refused(Refusal::Type, c.at));
     };
     match kind {
-        Kind::Number => as_head(leaf::number(c)),
+        Kind::Number => as_head(number(c)),
         Kind::BlobString | Kind::BlobError | Kind::Verbatim | Kind::ChunkedString => {
             as_head(sized::<P>(c, kind))
         }
-        Kind::SimpleString | Kind::SimpleError | Kind::BigNumber => as_head(leaf::text_line(c, kind)),
+        Kind::SimpleString | Kind::SimpleError | Kind::BigNumber => as_head(text_line(c, kind)),
         Kind::Array | Kind::Map | Kind::Set | Kind::Push | Kind::Attribute => holder::<P>(c, kind),
-        Kind::Null | Kind::EndStream => as_head(leaf3::blank(c, kind)),
-        Kind::Boolean => as_head(leaf3::boolean(c)),
-        Kind::Double => as_head(leaf3::double(c)),
-        Kind::Hello => hello(c),
+        Kind::Null | Kind::EndStream => as_head(blank(c, kind)),
+        Kind::Boolean => as_head(boolean(c)),
+        Kind::Double => as_head(double(c)),
+        Kind::Hello => greeting(c),
         Kind::Marker | Kind::User | Kind::Password | Kind::Name => {
             Err(Stop::Refused(Refusal::Type, c.at))
         }

@@ -1,5 +1,5 @@
 -- What the promise of a decode call gives, in the numbers that it tells: answers that stay, and bounds, proved of every decoder's promise in `answers`.
-use Rattle.std.specs.Prelude.{◌≡◌, List, ◌++◌, ℕ, ◌+◌, ◌*◌, ◌≤◌, ◌<◌, length, take, drop, Option, None, Some, Result, Err}
+use Rattle.std.specs.Prelude.{◌≡◌, List, ◌++◌, ℕ, ◌+◌, ◌*◌, ◌≤◌, ◌<◌, length, take, drop, None, Some, Err}
 use Rattle.std.proofs.Math.Path.{refl, sym, ap, subst}
 use Rattle.std.proofs.Common.{◌∙◌, arith}
 use Rattle.meaning.specs.Kinds.{Profile}

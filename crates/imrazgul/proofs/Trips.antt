@@ -13,13 +13,13 @@ use Rattle.meaning.specs.RowsLaws.{length-words}
 use Rattle.meaning.specs.Frames.{depth_limit}
 use Rattle.meaning.specs.Decode.{frame}
 use Rattle.meaning.specs.DecodeLaws.{OfFrame, InBounds, frame-within}
-use Rattle.meaning.specs.Encode.{present, source_limit, able, encoding, Encoded, written, within, encode}
+use Rattle.meaning.specs.Encode.{present, source_limit, able, encoding, written, within, encode}
 use Rattle.meaning.specs.Trips.{spelled}
 use Rattle.meaning.proofs.TripLaws as Trip
 use Rattle.answers.specs.Answers.{table_after, meant}
 use Rattle.encoder.specs.Encodes as Encodes
-use Rattle.encoder.specs.Encodes.{written_of, output_after}
-use Rattle.encoder.specs.declared.Told.{Told as Numbers}
+use Rattle.encoder.specs.Encodes.{output_after}
+use Rattle.encoder.specs.declared.error.Told.{Told as Numbers}
 use Rattle.imrazgul.specs.Calls.{DecodeCall, EncodeCall, length_told}
 use Rattle.imrazgul.specs.Trips.{FrameOf, frame_told, bytes_told, of-frame}
 
@@ -79,6 +79,6 @@ module _ (s t₀ t₁ : List ℕ) (n u : ℕ) (w : DecodeCall resp2 s 0 t₀ t�
         let size : length (take n s) ≡ n = length-take-le n s x.inside in
         let past : 0 + length (take n s) ≡ n = omega (arith, size) in
         let is : encode resp2 s t₁ false (length out₀) ≡ written (take n s) = ap (within (length out₀)) bytes ∙ rw (le-leb (length (take n s)) (length out₀) (omega arith)) in (
-          e.says ∙ ap (λ (o : Encoded). Encodes.told_of (written_of o)) is ∙ ap bytes_told size,
+          e.says ∙ ap Encodes.told_of is ∙ ap bytes_told size,
           e.leaves ∙ ap (output_after out₀) is ∙ sets-eq (take n s) out₀ 0 (omega arith) ∙ ap (λ (k : ℕ). take n s ++ drop k out₀) past,
         )

@@ -1,6 +1,6 @@
 -- HELLO's answer as a step of the meaning, and that its promise allows one.
-use Rattle.std.specs.Prelude.{◌≡◌, refl, Some, Result}
-use Rattle.std.proofs.Common.{sym, ap, ◌∙◌}
+use Rattle.std.specs.Prelude.{◌≡◌, Some, Result}
+use Rattle.std.proofs.Common.{ap}
 use Rattle.std.proofs.Math.Option as math
 use Rattle.meaning.specs.Hello.{HelloLine, hello_line}
 use Rattle.meaning.specs.Kinds.{resp3}
@@ -9,7 +9,7 @@ use Rattle.refusal.specs.declared.Stop.{Stop}
 use Rattle.text.specs.declared.cursor.Cursor.{Cursor}
 use Rattle.text.specs.Reads.{Gives}
 use Rattle.text3.specs.declared.hello.Greeting.{Greeting}
-use Rattle.text3.specs.Hello.{fields_of, greeting_of, one_answer}
+use Rattle.text3.specs.Hello.{fields_of, one_answer}
 use Rattle.leaf.specs.Answers.{Same, one-answer}
 
 abbrev pub greeted_as : Greeting → Step

@@ -1,4 +1,4 @@
-//! The parts of a line, cut at each space, each with its place.
+//! The parts of a line, cut at each space, each with the place where it stands.
 ghost use Rattle.std.specs.Prelude.{◌≡◌, ◌≤◌, [], ◌∷◌, length};
 ghost use Rattle.std.specs.Option.{option_map_or};
 ghost use Rattle.meaning.specs.Text.{parts};
@@ -6,7 +6,7 @@ ghost use Rattle.meaning.specs.Text.{parts};
 use crate::hello::Span;
 
 // A part, and where it stands.
-#[derive(Clone, Copy, Drop)]
+#[derive(Clone, Copy)]
 pub(crate) struct Part<'a> {
     pub(crate) text: &'a [u8],
     pub(crate) span: Span,

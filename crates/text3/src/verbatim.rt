@@ -1,4 +1,4 @@
-//! Verbatim formats.
+//! The formats of verbatim strings, apart from `word`, since one module has no function `format` beside a type `Format`.
 ghost use Rattle.std.specs.Prelude.{◌≡◌};
 ghost use Rattle.text3.specs.Words.{format_code};
 
