@@ -1,2 +1,2 @@
--- The kinds that are a text behind its length.
+-- The kinds beside BlobString that are a text behind its length.
 mod Groups

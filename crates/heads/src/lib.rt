@@ -99,9 +99,9 @@ pub fn head_of<'a, P: Profile>(
     };
     match kind {
         Kind::Number => as_head(number(c)),
-        Kind::BlobString | Kind::BlobError | Kind::Verbatim | Kind::ChunkedString => {
-            as_head(sized::<P>(c, kind))
-        }
+        // The kind as a constant: most frames are bulk strings, and what their kind decides is then decided.
+        Kind::BlobString => as_head(sized::<P>(c, Kind::BlobString)),
+        Kind::BlobError | Kind::Verbatim | Kind::ChunkedString => as_head(sized::<P>(c, kind)),
         Kind::SimpleString | Kind::SimpleError | Kind::BigNumber => as_head(text_line(c, kind)),
         Kind::Array | Kind::Map | Kind::Set | Kind::Push | Kind::Attribute => holder::<P>(c, kind),
         Kind::Null | Kind::EndStream => as_head(blank(c, kind)),

@@ -1,8 +1,6 @@
 -- One read after another, as `?` chains them.
-use Rattle.std.specs.Prelude.{None, Some, ◌≡◌, ℕ, ◌+◌, ◌≤◌, ◌<◌, ◌-◌, List, [], ◌∷◌, ◌++◌, Result, Ok, Err, length, drop, take, get_or}
-use Rattle.std.specs.Result.{IsErrAnd}
+use Rattle.std.specs.Prelude.{None, Some, ◌≡◌, ℕ, ◌+◌, ◌≤◌, ◌<◌, ◌-◌, List, [], ◌∷◌, ◌++◌, length, drop, take, get_or}
 use Rattle.std.proofs.Common.{arith, ◌⊎◌, inl, inr, ◌∙◌, refl, ap, sym, leb, le-leb, drop-cons, length-append}
-use Rattle.std.proofs.lemmas.Result.{err_from_is_err_and}
 use Rattle.std.proofs.lemmas.List.{take-append-le, drop-drop}
 use Rattle.std.proofs.Math.Seq.{take-length, take-add}
 use Rattle.meaning.specs.Choice.{pick}
@@ -12,11 +10,7 @@ use Rattle.meaning.specs.Demand.{bytes, line, serves, line_len, cr, lf}
 use Rattle.meaning.specs.ProgLaws as Laws
 use Rattle.meaning.specs.ProgLaws.{run_bind}
 use Rattle.meaning.specs.RunLaws.{bytes-there, bytes-short, ask-some, ask-none}
-use Rattle.refusal.specs.declared.Refusal.{Refusal}
-use Rattle.refusal.specs.declared.Stop.{Stop}
-use Rattle.refusal.specs.Numbers.{number_of}
-use Rattle.text.specs.declared.cursor.Cursor.{Cursor}
-use Rattle.text.specs.Reads.{Read, reads, given, stopped, waiting, ◌>>=◌, told, Over, Gives, byte_p, skip_p, text_p}
+use Rattle.text.specs.Reads.{Read, reads, given, stopped, waiting, ◌>>=◌, byte_p, skip_p, text_p}
 use Rattle.text.specs.Lines.{found_of}
 use Rattle.text.proofs.Lines.{line-to, line-text, line-ends, found_none, before}
 
@@ -143,72 +137,3 @@ reads_both n m s at = go (before n (length s - at)) (before (n + m) (length s - 
 pub ruleset finding = (byte_there, byte_missing, bytes_there, bytes_missing, text_there, text_missing)
 
 pub ruleset reading = (reads_bind, given_then, stopped_then, waiting_then, reads_ret, reads_refuse, reads_here, reads_bytes, reads_line, text_ended, reads_byte, reads_both)
-
--- ---- the same by hand: where the check does not find a chain, each of its exits is a line
-
--- what a read gives, of a run
-pub gives-run : {T A : Type 0} {p : Prog A} {v : T → A} {c : Cursor} {r : Result (T × Cursor) Stop} → Gives p v c r
-    → (lim used : ℕ) → run p c.src.now lim c.at used ≡ told v r lim used
-unfolding reads
-gives-run g lim used = ap (λ (o : Read _). o lim used) g.means
-
-pub gives-runs : {T A : Type 0} {p : Prog A} {v : T → A} {c : Cursor} {r : Result (T × Cursor) Stop}
-    → ((lim used : ℕ) → run p c.src.now lim c.at used ≡ told v r lim used) → Over c.src.now r → Gives p v c r
-unfolding reads
-gives-runs h o = record { means = same h; over = o }
-
-told-stop : {T A U B : Type 0} (v : T → A) (w : U → B) (f : A → ℕ → Read B) (e : Stop) → (told v (Err e) >>= f) ≡ told w (Err e)
-told-stop v w f (Stop.Refused r n) = stopped_then (number_of r) n f
-told-stop v w f Stop.Unfinished = waiting_then f
-
-module _ {T A U B : Type 0} {p : Prog A} (f : A → Prog B) {v : T → A} {w : U → B} {c : Cursor} where
-  -- what a `?` lets through, and then another read
-  pub gives-then : {x : T} {d : Cursor} {r : Result (U × Cursor) Stop} → Gives p v c (Ok (x, d)) → Gives (f (v x)) w d r → Gives (bind p f) w c r
-  gives-then {x} {d} {r} g h =
-      let k : reads (f (v x)) d.src.now d.at ≡ told w r = h.means in
-      record {
-        means = rw (reads_bind p f c.src.now c.at, g.means, given_then (v x) d.at (λ a n. reads (f a) c.src.now n), ← g.over) k;
-        over = rw (← g.over) h.over;
-      }
-
-  -- what a `?` returns
-  pub gives-stop : {e : Stop} → Gives p v c (Err e) → Gives (bind p f) w c (Err e)
-  gives-stop {e} g = record {
-    means = rw (reads_bind p f c.src.now c.at, g.means) (told-stop v w (λ a n. reads (f a) c.src.now n) e);
-    over = tt;
-  }
-
--- the exit of a `?`
-pub gives-exit : {U B : Type 0} {p : Prog B} {w : U → B} {c : Cursor} {e : Stop} (r : Result (U × Cursor) Stop) → IsErrAnd r (λ y. y ≡ e) → Gives p w c (Err e) → Gives p w c r
-gives-exit r h g = let q = err_from_is_err_and r h in rw (q.1, q.2) g
-
--- what was read is given
-pub gives-ret : {T A : Type 0} {v : T → A} {c : Cursor} {a : A} (x : T) → a ≡ v x → Gives (ret a) v c (Ok (x, c))
-gives-ret {c = c} {a} x e = record { means = reads_ret a c.src.now c.at ∙ rw e refl; over = refl }
-
--- what was read is refused, here
-pub gives-refuse : {T A : Type 0} {v : T → A} {c : Cursor} (r : Refusal) → Gives (refuse (number_of r)) v c (Err (Stop.Refused r c.at))
-gives-refuse {c = c} r = record { means = reads_refuse (number_of r) c.src.now c.at; over = tt }
-
--- a program that asks for its place
-pub gives-here : {T A : Type 0} {v : T → A} {c : Cursor} {r : Result (T × Cursor) Stop} (q : ℕ → ℕ → Prog A) → ((used : ℕ) → Gives (q c.at used) v c r) → Gives (here q) v c r
-unfolding run reads
-gives-here q h = record { means = same (λ lim used. gives-run (h used) lim used); over = (h 0).over }
-
--- the same, seen otherwise
-pub gives-seen : {T U A : Type 0} {p : Prog A} {v : T → A} {w : U → A} {c d : Cursor} (x : T) (y : U) → v x ≡ w y → Gives p v c (Ok (x, d)) → Gives p w c (Ok (y, d))
-gives-seen x y e g = record { means = rw (← e) g.means; over = g.over }
-
--- the same stop
-pub gives-same : {T U A : Type 0} {p : Prog A} {v : T → A} {w : U → A} {c : Cursor} {e : Stop} → Gives p v c (Err e) → Gives p w c (Err e)
-gives-same {T} {U} {A} {v = v} {w} {e = e} g = record { means = g.means ∙ go e; over = tt }
-  where
-    go : (e : Stop) → told v (Err e) ≡ told w (Err e)
-    go (Stop.Refused r n) = refl
-    go Stop.Unfinished = refl
-
--- a program whose runs there are another's
-pub gives-as : {T A : Type 0} {p : Prog A} (q : Prog A) {v : T → A} {c : Cursor} {r : Result (T × Cursor) Stop}
-    → ((lim used : ℕ) → run p c.src.now lim c.at used ≡ run q c.src.now lim c.at used) → Gives q v c r → Gives p v c r
-unfolding reads
-gives-as q e g = record { means = same e ∙ g.means; over = g.over }

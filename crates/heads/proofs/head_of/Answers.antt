@@ -2,5 +2,5 @@
 use Rattle.heads.proofs.Groups.{sized-head}
 use Rattle.heads.proofs.head_of.Goals as goal
 
-pub returns-in-BlobString : goal.returns-in-BlobString
-returns-in-BlobString g c = rw (c.in-Some.is, sized-head _ _ c.in-BlobString.is) (c.as_head-in-BlobString.ensures _ _ c.sized.ensures)
+pub returns-in-BlobError : goal.returns-in-BlobError
+returns-in-BlobError g c = rw (c.in-Some.is, sized-head _ _ c.in-BlobError.is) (c.as_head-in-BlobError.ensures _ _ c.sized-in-BlobError.ensures)

@@ -1,7 +1,7 @@
--- `text::number::last_digits` meets its contract: as many digits as can be there.
+-- `text::number::some_digits` meets its contract: as many digits as can be there.
 use Rattle.std.proofs.Common.{arith}
 use Rattle.text.proofs.Short.{short-all}
-use Rattle.text.proofs.number.last_digits.Goals as goal
+use Rattle.text.proofs.number.some_digits.Goals as goal
 
 pub returns : goal.returns
 returns c =
