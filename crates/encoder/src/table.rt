@@ -1,5 +1,5 @@
 //! What is encoded: a table's rows, and the source in which their texts stand.
-ghost use Rattle.std.specs.Prelude.{◌≡◌, ◌*◌, ◌≤◌, length};
+ghost use Rattle.std.specs.Prelude.{◌*◌, ◌≤◌, length};
 ghost use Rattle.meaning.specs.Rows.{row_width, most_rows};
 ghost use Rattle.meaning.specs.Encode.{source_limit};
 

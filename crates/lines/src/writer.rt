@@ -1,10 +1,11 @@
 //! What is written of a row, piece by piece.
-ghost use Rattle.std.specs.Prelude.{◌≡◌, true, [], ◌∷◌, ◌++◌, ◌+◌, ◌≤◌, length};
-ghost use Rattle.meaning.specs.Kinds.{type_byte, number_kind, blob_string_kind, array_kind};
+ghost use Rattle.std.specs.Prelude.{◌≡◌, true, [], ◌∷◌, ◌+◌, ◌≤◌, length};
+ghost use Rattle.meaning.specs.Kinds.{type_byte, number_kind, blob_string_kind};
 ghost use Rattle.meaning.specs.Digits.{digits_of, shown};
-ghost use Rattle.meaning.specs.Encode.{row_is_fit, line_of, line_for, count_for, bulk_for, integer_text, crlf, source_limit};
+ghost use Rattle.meaning.specs.Encode.{line_of, line_for, count_for, bulk_for, integer_text, crlf, source_limit};
 ghost use Rattle.kinds.specs.Codes.{code_of};
 ghost use Rattle.rows.specs.Put.{node_in};
+ghost use Rattle.lines.specs.Fits.{IsFit};
 ghost use Rattle.lines.specs.LineLaws.{null_line, both_have};
 
 use crate::{integer_width, kind_of, signed};
@@ -196,7 +197,8 @@ impl<'a> Writer<'a> {
     #[inline(always)]
     #[tactic(auto, using(crate::proofs::Rules::row_lines))]
     pub fn row<P: Profile>(&mut self, s: &[u8], r: Row, flag: bool)
-        requires fit { (row_is_fit P.profile s.now (node_in r) ≡ true) × (length s.now ≤ source_limit) }
+        requires fit { IsFit P.profile s.now r }
+        requires source { length s.now ≤ source_limit }
         requires room { HasRoom (length (line_of P.profile s.now flag (node_in r))) self.old }
         ensures { Puts (line_of P.profile s.now flag (node_in r)) self.old self.new }
     {

@@ -1,2 +1,2 @@
--- From a check on a range to a call on a whole buffer.
+-- From what a check answers to what the call does.
 mod Wholes

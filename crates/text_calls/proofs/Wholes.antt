@@ -1,27 +1,43 @@
--- A check on a whole buffer, and its answer as the meaning's.
-use Rattle.std.proofs.Common.{◌≡◌, refl, ap, ◌∙◌, List, ℕ, ◌-◌, length, take, drop, arith, take_all}
-use Rattle.std.proofs.Math.Option.{Option, none, some}
-use Rattle.meaning.specs.Text.{Num, plus, minus, count, minus_one}
+-- What a check answers on a text, handed on, is what the text's meaning is handed on as.
+use Rattle.std.specs.Prelude.{◌≡◌, refl, Bool, true, false, List, ◌∷◌, [], ℕ, ◌^◌, eqb, ltb, Option, Some, None}
+use Rattle.std.proofs.Math.Option.{none, some}
+use Rattle.std.proofs.Math.Option as math
+use Prim.Native.Char.{code}
+use Rattle.meaning.specs.Choice.{pick}
+use Rattle.meaning.specs.Text.{Num, plus, minus, count, minus_one, digits, below64, plain_length}
 use Rattle.meaning.specs.Text as Text
-use Rattle.text.specs.Numbers.{length_as, word_as}
-use Rattle.text3.specs.Answers.{flag_of}
-use Rattle.text_calls.specs.declared.Answer.{Answer}
-use Rattle.text_calls.specs.Answers.{length_in, length_answer, word_in, number_answer, flag_in, boolean_answer}
+use Rattle.text.specs.Numbers.{plain_as, length_as, word_as}
+use Rattle.text3.specs.Words.{word_number, bit_of}
+use Rattle.text_calls.specs.Answers.{word_in, length_in, bit_in, length_answer, number_answer, boolean_answer}
 
--- f: what a text means; g: how the check answers that; h: how its answer is handed on; k: what is to be handed on
-pub over : {A B : Type 0} (f : List ℕ → A) (g : A → B) (h : B → Answer) (k : A → Answer) → ((a : A) → h (g a) ≡ k a) → (s : List ℕ) {b : B} → b ≡ g (f (take (length s - 0) (drop 0 s))) → h b ≡ k (f s)
-over f g h k right s e = ap h (e ∙ ap (λ l. g (f l)) (take_all (length s - 0) s (omega arith))) ∙ right (f s)
+-- a plain length is never -1
+below-right : (o : math.Option ℕ) → word_in (plain_as (below64 o)) ≡ length_answer (below64 o)
+below-right none = refl
+below-right (some n) = go (ltb n (2 ^ 64))
+  where
+    go : (b : Bool) → word_in (plain_as (pick b (some (count n)) none)) ≡ length_answer (pick b (some (count n)) none)
+    go true = refl
+    go false = refl
 
-pub length-right : (n : Option Text.Length) → length_in (length_as n) ≡ length_answer n
-length-right none = refl
-length-right (some (count n)) = refl
-length-right (some minus_one) = refl
+pub plain_right : (l : List ℕ) → word_in (plain_as (plain_length l)) ≡ length_answer (plain_length l)
+unfolding plain_length
+plain_right [] = refl
+plain_right (c ∷ r) = go (eqb c (code "+"))
+  where
+    go : (b : Bool) → word_in (plain_as (pick b (below64 (digits r)) (below64 (digits (c ∷ r))))) ≡ length_answer (pick b (below64 (digits r)) (below64 (digits (c ∷ r))))
+    go true = below-right (digits r)
+    go false = below-right (digits (c ∷ r))
 
-pub number-right : (n : Option Num) → word_in (word_as n) ≡ number_answer n
-number-right none = refl
-number-right (some (plus n)) = refl
-number-right (some (minus n)) = refl
+pub length_right : (o : math.Option Text.Length) → length_in (length_as o) ≡ length_answer o
+length_right none = refl
+length_right (some (count n)) = refl
+length_right (some minus_one) = refl
 
-pub boolean-right : (n : Option ℕ) → flag_in (flag_of n) ≡ boolean_answer n
-boolean-right none = refl
-boolean-right (some n) = refl
+pub number_right : (o : math.Option Num) → word_in (word_as o) ≡ number_answer o
+number_right none = refl
+number_right (some (plus n)) = refl
+number_right (some (minus n)) = refl
+
+pub boolean_right : (o : Option Bool) → bit_in o ≡ boolean_answer (word_number bit_of o)
+boolean_right None = refl
+boolean_right (Some b) = refl

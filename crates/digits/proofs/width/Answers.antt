@@ -3,10 +3,10 @@ use Rattle.std.proofs.Common.{◌-◌, arith}
 use Rattle.meaning.specs.DigitLaws.{zeros-digit, zeros-digits, shown-length}
 use Rattle.digits.proofs.width.Goals as goal
 
-pub returns-in-None : goal.returns-in-None
-returns-in-None c = grind (arith, shown-length c.args.n, zeros-digit 19 c.args.n)
+pub returns-then-n-lt10 : goal.returns-then-n-lt10
+returns-then-n-lt10 c = grind (arith, shown-length c.args.n, zeros-digit 19 c.args.n)
 
-pub returns-in-Some : goal.returns-in-Some
-returns-in-Some c =
-    let k = c.in-Some.power in
+pub returns-else-n-lt10 : goal.returns-else-n-lt10
+returns-else-n-lt10 c =
+    let k = c.ilog10.result in
     grind (arith, shown-length c.args.n, zeros-digits (19 - k) k c.args.n)
