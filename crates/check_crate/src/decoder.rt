@@ -32,7 +32,7 @@ impl Decoder {
     }
 }
 
-/// What a decode comes to.
+/// What a decode comes to. Not a Result: what goes with each is in other fields of the record.
 #[derive(Clone, Copy, Debug, PartialEq, Eq)]
 pub(crate) enum Outcome {
     Unfinished,

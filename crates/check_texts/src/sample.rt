@@ -5,6 +5,7 @@ use crate::check::Check;
 use crate::said::Said;
 use lists::Record;
 use std::fmt;
+use text::scan;
 
 /// Why a record is not as it should be.
 #[derive(Clone, Copy, Debug, PartialEq, Eq)]
@@ -38,7 +39,7 @@ pub(crate) struct Sample<'a> {
 fn split_once(s: &[u8], byte: u8) -> Option<(&[u8], &[u8])>
     ensures { IfSome result (λ p. length p.1.now < length s.now) }
 {
-    let place = s.iter().position(|b| *b == byte)?;
+    let place = scan::find(s, byte)?;
     Some((&s[..place], &s[place + 1..]))
 }
 

@@ -1,6 +1,7 @@
 //! Why no bytes are written, and an answer as the numbers that callers of other languages know.
 ghost use Rattle.std.specs.Prelude.{◌≡◌};
-ghost use Rattle.encoder.specs.Encodes.{number_of, needed_by, numbers_of};
+ghost use Rattle.meaning.specs.Encode.{unable};
+ghost use Rattle.encoder.specs.Encodes.{number_of, needed_by, numbers_of, told_of_size};
 
 /// Why no bytes are written (RULES 5.4).
 #[derive(Clone, Copy, Debug, PartialEq, Eq)]
@@ -42,6 +43,18 @@ impl EncodeError {
 pub struct Told {
     pub refusal: u64,
     pub bytes: u64,
+}
+
+impl Told {
+    /// A refusal by its number as it is, also one that no error has.
+    pub fn refused(number: u64) -> Told
+        ensures { result ≡ told_of_size (unable number) }
+    {
+        Told {
+            refusal: number,
+            bytes: 0,
+        }
+    }
 }
 
 impl From<Result<u64, EncodeError>> for Told {

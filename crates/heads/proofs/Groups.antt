@@ -1,7 +1,15 @@
--- The kinds beside BlobString that are a text behind its length.
-use Rattle.std.proofs.Common.{◌≡◌, refl, ◌⊎◌, inl, inr}
-use Rattle.meaning.specs.Kinds.{Profile}
-use Rattle.meaning.specs.Frames.{length_p, head_p}
+-- The kinds beside BlobString that are a text behind its length, and RESP2's Null in a bulk string's place.
+use Rattle.std.proofs.Common.{◌≡◌, refl, ap, ◌∙◌, ◌⊎◌, inl, inr}
+use Rattle.std.specs.Prelude.{ℕ, Bool, false, List, Option, None}
+use Rattle.meaning.specs.Choice.{pick}
+use Rattle.meaning.specs.Prog.{Prog}
+use Rattle.meaning.specs.Kinds.{Profile, null_kind, blob_string_kind, marker_kind}
+use Rattle.meaning.specs.Frames.{Step, leaf, absent, length_p, head_p}
+use Rattle.text.specs.Reads.{Read, reads, given, ◌>>=◌}
+use Rattle.text.specs.Numbers.{count_p}
+use Rattle.text.proofs.Chain.{given_then, reads_ret}
+use Rattle.leaf.specs.Leaves.{follow}
+use Rattle.leaf.proofs.Programs.{reads_length}
 use Rattle.kinds.specs.declared.kind.Kind.{Kind}
 use Rattle.kinds.specs.Codes.{code_of}
 use Rattle.heads.specs.Steps.{sized_p}
@@ -12,3 +20,12 @@ unfolding head_p
 sized-head π k (inl e) = rw e refl
 sized-head π k (inr (inl e)) = rw e refl
 sized-head π k (inr (inr e)) = rw e refl
+
+pub null-read : (π : Profile) (f : ℕ → Prog Step) (s : List ℕ) (at next : ℕ) → π.three ≡ false → reads (count_p false π.three) s at ≡ given None next
+    → reads (length_p π blob_string_kind f) s at ≡ given (leaf null_kind 0 0 0) next
+null-read π f s at next e h =
+    reads_length s at π blob_string_kind f
+    ∙ ap (λ (o : Read (Option ℕ)). o >>= λ n m. reads (follow π blob_string_kind f n) s m) h
+    ∙ given_then None next (λ n m. reads (follow π blob_string_kind f n) s m)
+    ∙ reads_ret (absent π blob_string_kind) s next
+    ∙ ap (λ (b : Bool). given (pick b (leaf marker_kind 0 0 blob_string_kind) (leaf null_kind 0 0 0)) next) e

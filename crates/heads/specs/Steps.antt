@@ -1,10 +1,11 @@
 -- A head as a step of the meaning, and what follows the length of a text.
-use Rattle.std.specs.Prelude.{ℕ, ◌*◌, ◌||◌, eqb}
+use Rattle.std.specs.Prelude.{◌≡◌, ℕ, ◌*◌, ◌||◌, eqb}
 use Rattle.meaning.specs.Choice.{pick}
 use Rattle.meaning.specs.Prog.{Prog}
 use Rattle.meaning.specs.Kinds.{resp3, array_kind, map_kind, attribute_kind, verbatim_kind, chunked_string_kind}
 use Rattle.meaning.specs.Frames.{Step, greeting, holder, bulk_p, verbatim_p, chunk_p}
 use Rattle.kinds.specs.Codes.{code_of}
+use Rattle.kinds.specs.declared.kind.Kind.{Kind}
 use Rattle.text3.specs.Hello.{fields_of}
 use Rattle.leaf.specs.Leaves.{leaf_of}
 use Rattle.heads.specs.declared.Head.{Head}
@@ -18,9 +19,19 @@ step_of (Head.Leaf l) = leaf_of l
 step_of (Head.Hello g) = greeting g.version (fields_of g)
 step_of (Head.Holder k n) = holder (code_of k) (frames_of (code_of k) n)
 
+-- a holder is of the kind of its type byte
+abbrev pub OfKind : ℕ → Head → Type 0
+OfKind k (Head.Leaf l) = Unit {0}
+OfKind k (Head.Hello g) = Unit {0}
+OfKind k (Head.Holder j n) = code_of j ≡ k
+
 -- an array's count
 abbrev pub array_of : ℕ → Step
 array_of n = holder array_kind n
+
+-- a holder's kind and its count
+abbrev pub counted_of : Kind × ℕ → Step
+counted_of x = holder (code_of x.0) (frames_of (code_of x.0) x.1)
 
 -- a text of n bytes, by its kind
 abbrev pub sized_p : ℕ → ℕ → Prog Step

@@ -1,22 +1,22 @@
 //! A frame's type byte and its first lines.
 #![tactic(auto)]
 
-ghost use Rattle.std.specs.Prelude.{◌≡◌, false, eqb, Ok, IfSome};
+ghost use Rattle.std.specs.Prelude.{◌≡◌, ℕ, false, eqb, Ok, IfOk, IfSome};
 ghost use Rattle.meaning.specs.Prog.{Prog};
-ghost use Rattle.meaning.specs.Kinds.{resp3, attribute_kind, marker_kind};
+ghost use Rattle.meaning.specs.Kinds.{resp3, blob_string_kind, array_kind, attribute_kind, marker_kind};
 ghost use Rattle.meaning.specs.Frames.{Step, double_p, length_p, holder_p, hello_p, head_p, type_p};
 ghost use Rattle.kinds.specs.Codes.{code_of, coded};
 ghost use Rattle.text.specs.declared.cursor.Cursor.{Cursor};
 ghost use Rattle.text.specs.Reads.{Gives};
 ghost use Rattle.leaf.specs.Leaves.{leaf_of};
-ghost use Rattle.heads.specs.Steps.{step_of, array_of, sized_p};
+ghost use Rattle.heads.specs.Steps.{step_of, array_of, counted_of, OfKind, sized_p};
 
 use kinds::{Kind, Profile};
 use leaf::{Leaf, absent, bulk, count, number, text_line};
 use leaf3::{blank, boolean, chunk, double, verbatim};
 use refusal::{Refusal, Stop};
 use text::Cursor;
-use text::number::{near_digits, near_number};
+use text::number::{near_absent, near_digits, near_number};
 use text3::hello::Greeting;
 
 /// What a frame's first lines say.
@@ -33,7 +33,8 @@ pub enum Head {
 /// A leaf that was read, as a head.
 #[inline(always)]
 fn as_head<'a>(read: Result<(Leaf, Cursor<'a>), Stop>) -> Result<(Head, Cursor<'a>), Stop>
-    ensures { (p : Prog Step) (c : Cursor) → Gives p leaf_of c read.entry → Gives p step_of c result }
+    ensures read { (p : Prog Step) (c : Cursor) → Gives p leaf_of c read.entry → Gives p step_of c result }
+    ensures kind { (k : ℕ) → IfOk result (λ r. OfKind k r.0) }
 {
     let (leaf, next) = read?;
     Ok((Head::Leaf(leaf), next))
@@ -69,7 +70,8 @@ fn sized<'a, P: Profile>(c: Cursor<'a>, kind: Kind) -> Result<(Leaf, Cursor<'a>)
 #[tactic(auto, using(text::proofs::Chain::reading, leaf::proofs::Programs::reads_length))]
 #[inline(always)]
 fn holder<'a, P: Profile>(c: Cursor<'a>, kind: Kind) -> Result<(Head, Cursor<'a>), Stop>
-    ensures { Gives (holder_p P.profile (code_of kind)) step_of c.entry result }
+    ensures read { Gives (holder_p P.profile (code_of kind)) step_of c.entry result }
+    ensures kind { IfOk result (λ r. OfKind (code_of kind) r.0) }
 {
     let (length, next) = count::<P>(kind, c)?;
     match length {
@@ -81,140 +83,103 @@ fn holder<'a, P: Profile>(c: Cursor<'a>, kind: Kind) -> Result<(Head, Cursor<'a>
 /// HELLO's line, behind its H.
 #[inline(always)]
 fn greeting<'a>(c: Cursor<'a>) -> Result<(Head, Cursor<'a>), Stop>
-    ensures { Gives (hello_p resp3) step_of c.entry result }
+    ensures read { Gives (hello_p resp3) step_of c.entry result }
+    ensures kind { (k : ℕ) → IfOk result (λ r. OfKind k r.0) }
 {
     let (greeting, next) = leaf3::hello(c)?;
     Ok((Head::Hello(greeting), next))
 }
 
-/// A Double whose line is there and is one. None: nothing is said.
-#[tactic(auto, using(text::proofs::Chain::reading))]
+/// A frame of one line, or a Verbatim string, of a kind that RESP3 alone has, behind its type byte. None: nothing is said.
+#[tactic(auto, using(text::proofs::Chain::reading, leaf::proofs::Programs::reads_length), unfolding(meaning::specs::Frames::head_p))]
 #[inline(always)]
-fn near_double<'a>(c: Cursor<'a>) -> Option<(Leaf, Cursor<'a>)>
-    ensures unmarked { IfSome result (λ r. eqb (code_of r.0.kind) marker_kind ≡ false) }
-    ensures read { IfSome result (λ r. Gives (double_p resp3) leaf_of c.entry (Ok r)) }
-{
-    let from = c.at;
-    if let Ok((text, next)) = c.line() {
-        if text3::double::double(text) {
-            let leaf = Leaf {
-                kind: Kind::Double,
-                w1: from as u64,
-                w2: (from + text.len()) as u64,
-                w3: 0,
-            };
-            return Some((leaf, next));
-        }
-    }
-    None
-}
-
-/// A frame of one line of a kind that RESP3 alone has, and that is there and is what its kind asks for, behind its type byte. None: nothing is said.
-#[tactic(auto, using(text::proofs::Chain::reading), unfolding(meaning::specs::Frames::head_p))]
-#[inline(always)]
-fn near_word<'a, P: Profile>(kind: Option<Kind>, c: Cursor<'a>) -> Option<(Leaf, Cursor<'a>)>
+fn near_word<'a, P: Profile>(
+    kind: Option<Kind>,
+    c: Cursor<'a>,
+) -> Option<Result<(Leaf, Cursor<'a>), Stop>>
     ensures plain { IfSome result (λ r. eqb (coded kind) attribute_kind ≡ false) }
-    ensures unmarked { IfSome result (λ r. eqb (code_of r.0.kind) marker_kind ≡ false) }
-    ensures read { IfSome result (λ r. Gives (head_p P.profile (coded kind)) leaf_of c.entry (Ok r)) }
+    ensures unmarked { IfSome result (λ r. IfOk r (λ x. eqb (code_of x.0.kind) marker_kind ≡ false)) }
+    ensures read { IfSome result (λ r. Gives (head_p P.profile (coded kind)) leaf_of c.entry r) }
 {
     if !P::THREE {
         return None;
     }
     match kind {
-        Some(Kind::Null) => {
-            if let Ok((_, next)) = c.line() {
-                let leaf = Leaf {
-                    kind: Kind::Null,
-                    w1: 0,
-                    w2: 0,
-                    w3: 0,
-                };
-                return Some((leaf, next));
-            }
-            None
+        Some(Kind::Null) => Some(blank(c, Kind::Null)),
+        Some(Kind::Boolean) => Some(boolean(c)),
+        Some(Kind::Double) => Some(double(c)),
+        Some(Kind::Verbatim) => {
+            let (n, next) = near_digits(c)?;
+            Some(verbatim(next, n))
         }
-        Some(Kind::Boolean) => {
-            if let Ok((text, next)) = c.line() {
-                if let Some(value) = text3::word::boolean(text) {
-                    let leaf = Leaf {
-                        kind: Kind::Boolean,
-                        w1: u64::from(value),
-                        w2: 0,
-                        w3: 0,
-                    };
-                    return Some((leaf, next));
-                }
-            }
-            None
-        }
-        Some(Kind::Double) => near_double(c),
         _ => None,
     }
 }
 
-/// A frame of one line that is there and is what its kind asks for, behind its type byte. None: nothing is said.
-#[tactic(auto, using(text::proofs::Chain::reading), unfolding(meaning::specs::Frames::head_p))]
+/// A frame of one line, behind its type byte. None: nothing is said.
+#[tactic(auto, unfolding(meaning::specs::Frames::head_p))]
 #[inline(always)]
-fn near_line<'a, P: Profile>(kind: Option<Kind>, c: Cursor<'a>) -> Option<(Leaf, Cursor<'a>)>
+fn near_line<'a, P: Profile>(
+    kind: Option<Kind>,
+    c: Cursor<'a>,
+) -> Option<Result<(Leaf, Cursor<'a>), Stop>>
     ensures plain { IfSome result (λ r. eqb (coded kind) attribute_kind ≡ false) }
-    ensures unmarked { IfSome result (λ r. eqb (code_of r.0.kind) marker_kind ≡ false) }
-    ensures read { IfSome result (λ r. Gives (head_p P.profile (coded kind)) leaf_of c.entry (Ok r)) }
+    ensures unmarked { IfSome result (λ r. IfOk r (λ x. eqb (code_of x.0.kind) marker_kind ≡ false)) }
+    ensures read { IfSome result (λ r. Gives (head_p P.profile (coded kind)) leaf_of c.entry r) }
 {
     match kind {
-        Some(Kind::SimpleString | Kind::SimpleError) => {
-            let from = c.at;
-            if let Ok((text, next)) = c.line() {
-                let leaf = Leaf {
-                    kind: kind?,
-                    w1: from as u64,
-                    w2: (from + text.len()) as u64,
-                    w3: 0,
-                };
-                return Some((leaf, next));
-            }
-            None
-        }
+        Some(Kind::SimpleString | Kind::SimpleError | Kind::BigNumber) => Some(text_line(c, kind?)),
         _ => near_word::<P>(kind, c),
     }
 }
 
-/// A leaf that the next bytes tell, behind its type byte: a Number, a bulk string, or what `near_line` reads; with no call that answers in memory, so that the loop over a holder's frames keeps its state in registers. None: nothing is said.
+/// RESP2's Null in a bulk string's place, behind its type byte. None: nothing is said.
+#[tactic(auto, using(text::proofs::Chain::reading, leaf::proofs::Programs::reads_length))]
+#[inline(always)]
+fn near_null<'a, P: Profile>(c: Cursor<'a>) -> Option<Result<(Leaf, Cursor<'a>), Stop>>
+    ensures unmarked { IfSome result (λ r. IfOk r (λ x. eqb (code_of x.0.kind) marker_kind ≡ false)) }
+    ensures read { IfSome result (λ r. Gives (length_p P.profile blob_string_kind (sized_p blob_string_kind)) leaf_of c.entry r) }
+{
+    if P::THREE {
+        return None;
+    }
+    let next = near_absent(c)?;
+    let leaf = Leaf {
+        kind: Kind::Null,
+        w1: 0,
+        w2: 0,
+        w3: 0,
+    };
+    Some(Ok((leaf, next)))
+}
+
+/// A leaf that the next bytes tell, behind its type byte: a Number, a bulk string, or what `near_line` reads, or what stops it; with no call that answers in memory, so that the loop over a holder's frames keeps its state in registers. None: nothing is said.
 #[tactic(auto, using(text::proofs::Chain::reading, leaf::proofs::Programs::reads_number, leaf::proofs::Programs::reads_length), unfolding(meaning::specs::Frames::head_p))]
 #[inline(always)]
-pub fn near_head<'a, P: Profile>(kind: Option<Kind>, c: Cursor<'a>) -> Option<(Leaf, Cursor<'a>)>
+pub fn near_head<'a, P: Profile>(
+    kind: Option<Kind>,
+    c: Cursor<'a>,
+) -> Option<Result<(Leaf, Cursor<'a>), Stop>>
     ensures plain { IfSome result (λ r. eqb (coded kind) attribute_kind ≡ false) }
-    ensures unmarked { IfSome result (λ r. eqb (code_of r.0.kind) marker_kind ≡ false) }
-    ensures read { IfSome result (λ r. Gives (head_p P.profile (coded kind)) leaf_of c.entry (Ok r)) }
+    ensures unmarked { IfSome result (λ r. IfOk r (λ x. eqb (code_of x.0.kind) marker_kind ≡ false)) }
+    ensures read { IfSome result (λ r. Gives (head_p P.profile (coded kind)) leaf_of c.entry r) }
 {
     match kind {
         Some(Kind::Number) => {
-            if let Some((value, next)) = near_number(c) {
-                let leaf = Leaf {
-                    kind: Kind::Number,
-                    w1: value,
-                    w2: 0,
-                    w3: 0,
-                };
-                return Some((leaf, next));
-            }
-            None
+            let (value, next) = near_number(c)?;
+            let leaf = Leaf {
+                kind: Kind::Number,
+                w1: value,
+                w2: 0,
+                w3: 0,
+            };
+            Some(Ok((leaf, next)))
         }
         Some(Kind::BlobString) => {
             if let Some((n, next)) = near_digits(c) {
-                let from = next.at;
-                if let Ok((text, end)) = next.skip(n) {
-                    if let Ok((_, end)) = end.skip(2) {
-                        let leaf = Leaf {
-                            kind: Kind::BlobString,
-                            w1: from as u64,
-                            w2: (from + text.len()) as u64,
-                            w3: 0,
-                        };
-                        return Some((leaf, end));
-                    }
-                }
+                return Some(bulk(next, Kind::BlobString, n));
             }
-            None
+            near_null::<P>(c)
         }
         _ => near_line::<P>(kind, c),
     }
@@ -226,9 +191,29 @@ pub fn near_head<'a, P: Profile>(kind: Option<Kind>, c: Cursor<'a>) -> Option<(L
 pub fn near_array<'a, P: Profile>(kind: Option<Kind>, c: Cursor<'a>) -> Option<(u64, Cursor<'a>)>
     ensures plain { IfSome result (λ r. eqb (coded kind) attribute_kind ≡ false) }
     ensures read { IfSome result (λ r. Gives (head_p P.profile (coded kind)) array_of c.entry (Ok r)) }
+    ensures kind { IfSome result (λ r. array_kind ≡ coded kind) }
 {
     match kind {
         Some(Kind::Array) => near_digits(c),
+        _ => None,
+    }
+}
+
+/// The kind of a holder and its count that the next bytes tell, behind its type byte. None: nothing is said.
+#[tactic(auto, using(text::proofs::Chain::reading, leaf::proofs::Programs::reads_length), unfolding(meaning::specs::Frames::head_p))]
+#[inline(always)]
+pub fn near_holder<'a, P: Profile>(
+    kind: Option<Kind>,
+    c: Cursor<'a>,
+) -> Option<((Kind, u64), Cursor<'a>)>
+    ensures read { IfSome result (λ r. Gives (head_p P.profile (coded kind)) counted_of c.entry (Ok r)) }
+    ensures kind { IfSome result (λ r. code_of r.0.0 ≡ coded kind) }
+{
+    match kind {
+        Some(Kind::Array | Kind::Map | Kind::Set | Kind::Push | Kind::Attribute) => {
+            let (n, next) = near_digits(c)?;
+            Some(((kind?, n), next))
+        }
         _ => None,
     }
 }
@@ -240,7 +225,8 @@ pub fn head_of<'a, P: Profile>(
     kind: Option<Kind>,
     c: Cursor<'a>,
 ) -> Result<(Head, Cursor<'a>), Stop>
-    ensures { Gives (head_p P.profile (coded kind)) step_of c.entry result }
+    ensures read { Gives (head_p P.profile (coded kind)) step_of c.entry result }
+    ensures kind { IfOk result (λ r. OfKind (coded kind) r.0) }
 {
     let Some(kind) = kind else {
         return Err(Stop::Refused(Refusal::Type, c.at));

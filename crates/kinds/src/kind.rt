@@ -77,6 +77,15 @@ const KINDS3: [u8; 256] = [
     0,
 ];
 
+/// The column of a kind that says whether it may be a key or a set member.
+pub const KEY: usize = 0;
+
+/// The column that says whether it may carry an attribute.
+pub const CARRY: usize = 1;
+
+/// The column that says whether it has children.
+pub const CHILDREN: usize = 2;
+
 /// Indexed by the code: whether it may be a key or a set member, may carry an attribute, has children.
 const COLUMNS: [[bool; 3]; 23] = [
     [false, false, false], // 0, no kind
@@ -169,7 +178,7 @@ impl Kind {
         }
     }
 
-    /// The kind of a type byte of RESP2.
+    /// The kind of a type byte of RESP2. No `TryFrom<u8>`: a byte has a kind by protocol.
     #[tactic(auto, using(crate::proofs::AllBytes::named))]
     #[inline(always)]
     pub fn of_resp2(b: u8) -> Option<Kind>
@@ -192,7 +201,7 @@ impl Kind {
     pub fn may_be_key(self) -> bool
         ensures { result ≡ may_key (code_of self) }
     {
-        COLUMNS[self.code() as usize][0]
+        COLUMNS[self.code() as usize][KEY]
     }
 
     /// Whether it may carry an attribute.
@@ -200,7 +209,7 @@ impl Kind {
     pub fn may_carry(self) -> bool
         ensures { result ≡ may_carry (code_of self) }
     {
-        COLUMNS[self.code() as usize][1]
+        COLUMNS[self.code() as usize][CARRY]
     }
 
     /// Whether it has children.
@@ -208,6 +217,6 @@ impl Kind {
     pub fn has_children(self) -> bool
         ensures { result ≡ has_children (code_of self) }
     {
-        COLUMNS[self.code() as usize][2]
+        COLUMNS[self.code() as usize][CHILDREN]
     }
 }

@@ -1,11 +1,13 @@
 -- A Number, and a sized kind, as one read after another.
-use Rattle.std.specs.Prelude.{◌≡◌, ℕ, ◌-◌, List, length, take}
-use Rattle.std.proofs.Common.{refl, ap, ◌∙◌}
+use Rattle.std.specs.Prelude.{◌≡◌, ℕ, ◌-◌, ◌≤◌, Bool, true, false, ltb, List, length, take}
+use Rattle.std.proofs.Common.{refl, ap, ◌∙◌, arith, ltb-false}
+use borrow.Author.Tests.{ne_eqb}
 use Rattle.std.proofs.Math.Option as math
+use Rattle.meaning.specs.Choice.{pick}
 use Rattle.meaning.specs.Demand.{line}
 use Rattle.meaning.specs.Prog.{Prog, ret, ask, bind}
 use Rattle.meaning.specs.Text.{Num, plus, minus, signed, Length, count, minus_one}
-use Rattle.meaning.specs.Kinds.{Profile, resp3, number_kind}
+use Rattle.meaning.specs.Kinds.{Profile, resp3, number_kind, blob_error_kind, verbatim_kind, chunked_string_kind, push_kind, attribute_kind}
 use Rattle.meaning.specs.Frames.{Step, leaf, number_p, numbered, length_p, takes_plain, length_for, sized}
 use Rattle.text.specs.Numbers.{count_p, counted, value_p, valued}
 use Rattle.text.specs.Reads.{reads, ◌>>=◌}
@@ -36,3 +38,15 @@ module _ (s : List ℕ) (at : ℕ) where
       alike math.none = refl
       alike (math.some (count n)) = refl
       alike (math.some minus_one) = refl
+
+-- a number that is no kind's code takes no plain length, as 0 does not
+pub known_plain : (k : ℕ) → takes_plain (pick (ltb k 23) k 0) ≡ takes_plain k
+known_plain k = go (ltb k 23) refl
+  where
+    past : 23 ≤ k → takes_plain k ≡ false
+    past h =
+        rw (ne_eqb k blob_error_kind (λ e. omega arith), ne_eqb k verbatim_kind (λ e. omega arith), ne_eqb k chunked_string_kind (λ e. omega arith), ne_eqb k push_kind (λ e. omega arith), ne_eqb k attribute_kind (λ e. omega arith)) refl
+
+    go : (b : Bool) → ltb k 23 ≡ b → takes_plain (pick b k 0) ≡ takes_plain k
+    go true e = refl
+    go false e = rw (past (ltb-false k 23 e)) refl

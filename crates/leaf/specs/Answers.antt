@@ -9,7 +9,7 @@ use Rattle.refusal.specs.declared.Stop.{Stop}
 use Rattle.refusal.specs.Numbers.{number_of}
 use Rattle.text.specs.declared.cursor.Cursor.{Cursor}
 use Rattle.text.specs.Numbers.{count_p}
-use Rattle.text.specs.Reads.{Gives, Over, Read, told, given, stopped, waiting}
+use Rattle.text.specs.Reads.{Gives, Over, Read, reads, told, given, stopped, waiting}
 use Rattle.leaf.specs.Leaves.{leaf_of, kind_at, kind-back}
 use Rattle.leaf.specs.declared.Leaf.{Leaf}
 
@@ -64,13 +64,13 @@ tag (done a n u) = 0
 tag (refused k n) = 1
 tag unfinished = 2
 
--- Any two answers that the promise allows are the same, where each value is seen as another.
-pub one-answer : {T A : Type 0} (p : Prog A) (view : T → A) → ((x y : T) → view x ≡ view y → x ≡ y) → (c : Cursor) (r q : Result (T × Cursor) Stop)
-    → Gives p view c r → Gives p view c q → Same r q
+-- Any two answers that say what a program comes to at a place are the same, where each value is seen as another.
+pub one-told : {T A : Type 0} (p : Prog A) (view : T → A) → ((x y : T) → view x ≡ view y → x ≡ y) → (s : List ℕ) (at : ℕ) (r q : Result (T × Cursor) Stop)
+    → reads p s at ≡ told view r → reads p s at ≡ told view q → Over s r → Over s q → Same r q
 unfolding tag given stopped waiting
-one-answer {T} {A} p view apart c r q a b = go r q (ap (λ (o : Read A). o 0 0) (sym a.means ∙ b.means)) a.over b.over
+one-told {T} {A} p view apart s at r q a b = go r q (ap (λ (o : Read A). o 0 0) (sym a ∙ b))
   where
-    go : (r q : Result (T × Cursor) Stop) → told view r 0 0 ≡ told view q 0 0 → Over c.src.now r → Over c.src.now q → Same r q
+    go : (r q : Result (T × Cursor) Stop) → told view r 0 0 ≡ told view q 0 0 → Over s r → Over s q → Same r q
     go (Ok x) (Ok y) e i j = let v : view x.0 ≡ view y.0 = cc in let n : x.1.at ≡ y.1.at = cc in (apart x.0 y.0 v, (n, i ∙ sym j))
     go (Ok x) (Err (Stop.Refused k n)) e i j = let z : ◌≡◌ {A = ℕ} 0 1 = ap tag e in absurd (omega arith)
     go (Ok x) (Err Stop.Unfinished) e i j = let z : ◌≡◌ {A = ℕ} 0 2 = ap tag e in absurd (omega arith)
@@ -84,6 +84,11 @@ one-answer {T} {A} p view apart c r q a b = go r q (ap (λ (o : Read A). o 0 0) 
     go (Err (Stop.Refused k n)) (Err Stop.Unfinished) e i j = let z : ◌≡◌ {A = ℕ} 1 2 = ap tag e in absurd (omega arith)
     go (Err Stop.Unfinished) (Err (Stop.Refused k n)) e i j = let z : ◌≡◌ {A = ℕ} 2 1 = ap tag e in absurd (omega arith)
     go (Err Stop.Unfinished) (Err Stop.Unfinished) e i j = refl
+
+-- Any two answers that the promise allows are the same.
+pub one-answer : {T A : Type 0} (p : Prog A) (view : T → A) → ((x y : T) → view x ≡ view y → x ≡ y) → (c : Cursor) (r q : Result (T × Cursor) Stop)
+    → Gives p view c r → Gives p view c q → Same r q
+one-answer p view apart c r q a b = one-told p view apart c.src.now c.at r q a.means b.means a.over b.over
 
 -- a leaf back from its step
 leaf_back : Step → Leaf

@@ -1,5 +1,5 @@
--- HELLO's answer as a step of the meaning, and that its promise allows one.
-use Rattle.std.specs.Prelude.{◌≡◌, Some, Result}
+-- HELLO's answer as a step of the meaning, where its fields stand, and that its promise allows one answer.
+use Rattle.std.specs.Prelude.{◌≡◌, ℕ, ◌+◌, ◌-◌, ◌≤◌, Some, Result}
 use Rattle.std.proofs.Common.{ap}
 use Rattle.std.proofs.Math.Option as math
 use Rattle.meaning.specs.Hello.{HelloLine, hello_line}
@@ -9,11 +9,15 @@ use Rattle.refusal.specs.declared.Stop.{Stop}
 use Rattle.text.specs.declared.cursor.Cursor.{Cursor}
 use Rattle.text.specs.Reads.{Gives}
 use Rattle.text3.specs.declared.hello.Greeting.{Greeting}
-use Rattle.text3.specs.Hello.{fields_of, one_answer}
+use Rattle.text3.specs.Hello.{fields_of, Places, one_answer}
 use Rattle.leaf.specs.Answers.{Same, one-answer}
 
 abbrev pub greeted_as : Greeting → Step
 greeted_as g = greeting g.version (fields_of g)
+
+-- a line from `at` on ends before `next`, and its fields stand in it
+abbrev pub PlacesIn : ℕ → ℕ → Greeting → Type 0
+PlacesIn at next g = (at + 2 ≤ next) × Places at (next - 2) (Some g)
 
 -- the line of a greeting, back from its step
 line_of : Step → math.Option HelloLine

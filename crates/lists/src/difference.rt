@@ -1,7 +1,7 @@
 //! A number held to the list's.
-ghost use Rattle.std.specs.Prelude.{◌≡◌, ◌≢◌, MatchResult};
+ghost use Rattle.std.specs.Prelude.{◌≡◌, ◌≢◌, MatchResult, eqb};
 
-use std::fmt;
+use std::{fmt, io};
 
 /// A number of ours that is another in the list.
 #[derive(Clone, Copy, Debug, PartialEq, Eq)]
@@ -30,4 +30,21 @@ pub fn same(what: &'static str, ours: u64, theirs: u64) -> Result<(), Difference
     } else {
         Err(Difference { what, ours, theirs })
     }
+}
+
+/// Whether both numbers are equal. Where they are not, both are printed behind what they say, any bytes.
+pub fn is_same(rt: &impl Print, what: &[u8], ours: u64, theirs: u64) -> bool
+    ensures { result ≡ eqb ours theirs }
+{
+    let same = ours == theirs;
+    if !same {
+        // the answer stands whether it could be printed or not
+        let _ = print_both(rt, what, ours, theirs);
+    }
+    same
+}
+
+fn print_both(rt: &impl Print, what: &[u8], ours: u64, theirs: u64) -> io::Result<()> {
+    rt.write_all(what)?;
+    print!(rt; "{ours}, the list's {theirs}")
 }

@@ -31,6 +31,7 @@ pub fn go_through<'a, E, R: Record<'a, E>, F: FnMut(R) -> Result<(), E>>(
     ensures { IfOk result (λ n. Holds R.parses (λ p r q. F.step p r (Ok tt) q) list.now hold n) }
 {
     let mut record: u64 = 0;
+    // Not an iterator: a record that is at fault ends it, and what is left is what the next one begins with.
     let mut rest = list;
     while !rest.is_empty() {
         record += 1;

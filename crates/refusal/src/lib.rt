@@ -107,7 +107,7 @@ impl fmt::Display for UnknownNumber {
 
 impl Error for UnknownNumber {}
 
-/// What stops a read.
+/// What stops a read. An error with two cases, and no Option inside a Result: both end a read, so that one `?` serves.
 #[derive(Clone, Copy, Debug, PartialEq, Eq)]
 pub enum Stop {
     /// Bytes are missing: more of them may make it a frame.

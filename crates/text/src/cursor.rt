@@ -14,7 +14,7 @@ pub struct Cursor<'a> {
 
 impl<'a> Cursor<'a> {
     ghost use Rattle.std.specs.Prelude.{◌≡◌, ◌+◌, ◌≤◌, length, IfOk};
-    ghost use Rattle.text.specs.Reads.{Gives, byte_p, skip_p, text_p};
+    ghost use Rattle.text.specs.Reads.{Gives, Over, reads, told, byte_p, skip_p, text_p};
 
     /// The next byte.
     #[inline(always)]
@@ -30,6 +30,20 @@ impl<'a> Cursor<'a> {
                     at: self.at + 1,
                 },
             ))
+        } else {
+            Err(Stop::Unfinished)
+        }
+    }
+
+    /// The byte at any place, and the cursor behind it; at a place past the end none is there yet.
+    #[inline(always)]
+    #[tactic(auto, using(crate::proofs::Chain::finding))]
+    pub fn byte_at(src: &'a [u8], at: usize) -> Result<(u8, Cursor<'a>), Stop>
+        ensures means { reads byte_p src.now at ≡ told (λ b. b) result }
+        ensures over { Over src.now result }
+    {
+        if at < src.len() {
+            Cursor { src, at }.byte()
         } else {
             Err(Stop::Unfinished)
         }

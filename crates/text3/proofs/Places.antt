@@ -1,5 +1,5 @@
 -- The places that a greeting names stand in its line, user, password and name in order.
-use Rattle.std.specs.Prelude.{◌≡◌, Bool, true, false, List, [], ◌∷◌, ℕ, ◌+◌, ◌≤◌, ◌&&◌, length, Option, Some, None, ⊤}
+use Rattle.std.specs.Prelude.{◌≡◌, Bool, true, false, List, [], ◌∷◌, ℕ, ◌+◌, ◌&&◌, length, Option}
 use Rattle.std.proofs.Common.{refl, sym, ap, subst, ◌∙◌, arith}
 use Rattle.std.proofs.Math.Option as Math
 use Rattle.meaning.specs.Choice.{pick}
@@ -7,33 +7,12 @@ use Rattle.meaning.specs.Text.{parts, is, codes, version}
 use Rattle.meaning.specs.Kinds.{name_kind}
 use Rattle.meaning.specs.Rows.{Forest, end}
 use Rattle.meaning.specs.Hello.{HelloLine, hello_line, part, greets, versioned, field_of, auth_fields, hello_of}
-use Rattle.text3.specs.declared.hello.Span.{Span}
-use Rattle.text3.specs.declared.hello.Login.{Login}
 use Rattle.text3.specs.declared.hello.Greeting.{Greeting}
-use Rattle.text3.specs.Hello.{greeting_of, told, told_by, told-greeting_of}
+use Rattle.text3.specs.Hello.{greeting_of, Places, told, told_by, told-greeting_of}
 use Rattle.text3.specs.Parts.{spread}
 use Rattle.text3.proofs.Words.{same-even}
 use Rattle.text3.proofs.Cuts.{spread-parts}
 use Rattle.text3.proofs.Greetings.{by_count, version_length}
-
--- from a place up to the line's end
-abbrev pub Within : ℕ → ℕ → Span → Type 0
-Within from to s = (from ≤ s.from) × (s.from ≤ s.to) × (s.to ≤ to)
-
--- a name behind the place
-abbrev pub NameWithin : ℕ → ℕ → Option Span → Type 0
-NameWithin from to None = ⊤
-NameWithin from to (Some s) = Within from to s
-
--- a user behind the place, a password behind that, and a name behind that
-abbrev pub FieldsWithin : ℕ → ℕ → Option Login → Option Span → Type 0
-FieldsWithin from to None name = NameWithin from to name
-FieldsWithin from to (Some l) name = Within from to l.user × Within (l.user.to + 1) to l.password × NameWithin (l.password.to + 1) to name
-
--- `at` is the place after H, `to` the line's end
-abbrev pub Places : ℕ → ℕ → Option Greeting → Type 0
-Places at to None = ⊤
-Places at to (Some g) = FieldsWithin at to g.login g.name
 
 -- ---- by the number of parts
 

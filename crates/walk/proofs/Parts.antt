@@ -12,7 +12,8 @@ use Rattle.text.specs.declared.cursor.Cursor.{Cursor}
 use Rattle.text.specs.Reads.{Gives, byte_p}
 use Rattle.walk.specs.declared.walked.Walked.{Walked}
 use Rattle.walk.specs.Walks.{Walks}
-use Rattle.walk.specs.Tops.{typed_p}
+use Rattle.walk.specs.Keys.{is_judged}
+use Rattle.walk.specs.Tops.{Known, typed_p}
 use Rattle.walk.proofs.Steps.{typed-attribute, typed-body, annotated-full, annotated-short, annotated-twice, annotated-stops, annotated-dropped, annotated-carried, attribute-stops, attributed}
 
 -- The frame of kind k that an attribute belongs to, behind its type byte. The attribute began at a cursor with its row; t₁: the table behind it; `used`: the rows.
@@ -42,17 +43,20 @@ carries row true e = refl
 carries row false e = let f : eqb (row + 1) 0 ≡ false = ne_eqb (row + 1) 0 (λ x. omega (arith, x)) in let z : true ≡ false = rw f at e in cc
 
 -- a kind that a type byte has
-pub known : (π : Profile) (b k : ℕ) → k ≡ kind_of π b → π.three ≡ false → eqb k attribute_kind ≡ false
+pub known : (π : Profile) (b k : ℕ) → k ≡ kind_of π b → Known π k
 unfolding kind_of lookup
-known π b k e three = ap (λ (n : ℕ). eqb n attribute_kind) e ∙ rw three (second (eqb 43 b) (eqb 45 b) (eqb 58 b) (eqb 36 b) (eqb 42 b))
+known π b k e three = rw (e, three) (second (eqb 43 b) (eqb 45 b) (eqb 58 b) (eqb 36 b) (eqb 42 b))
   where
-    second : (o p q r s : Bool) → eqb (pick o simple_string_kind (pick p simple_error_kind (pick q number_kind (pick r blob_string_kind (pick s array_kind 0))))) attribute_kind ≡ false
-    second true p q r s = refl
-    second false true q r s = refl
-    second false false true r s = refl
-    second false false false true s = refl
-    second false false false false true = refl
-    second false false false false false = refl
+    plain : ℕ → Type 0
+    plain n = (eqb n attribute_kind ≡ false) × (is_judged n ≡ false)
+
+    second : (o p q r s : Bool) → plain (pick o simple_string_kind (pick p simple_error_kind (pick q number_kind (pick r blob_string_kind (pick s array_kind 0)))))
+    second true p q r s = (refl, refl)
+    second false true q r s = (refl, refl)
+    second false false true r s = (refl, refl)
+    second false false false true s = (refl, refl)
+    second false false false false true = (refl, refl)
+    second false false false false false = (refl, refl)
 
 module _ (π : Profile) (d k₀ : ℕ) {w : Bool} {c : Cursor} {lim row : ℕ} {t₀ t : List ℕ} {k a used : ℕ} {place : Cursor} {t₂ : List ℕ} where
   own-part : {r : Result (Walked × Cursor) Stop} → t ≡ t₀ → k ≡ k₀ → a ≡ 0 → used ≡ row → place ≡ c → Walks (body_p π (frame_p π d) a k) w place lim (used + 1) used t t₂ r

@@ -105,6 +105,13 @@ module _ (π : Profile) (p : Prog Forest) (a k : ℕ) where
     body-stops {e} g =
         walks-stop (bodied c lim (row + 1) ∙ rw (gives-stopped lim (row + 1) g) (then-stop e (λ st n u. run (rest_p p a st) c.src.now lim n u))) (λ y. refl) refl
 
+    pub near-stops : {e : Stop} → Gives (head_p π k) leaf_of c (Err e) → Walks (body_p π p a k) w c lim (row + 1) row t₀ t₀ (Err e)
+    near-stops {e} g = go e g
+      where
+        go : (e : Stop) → Gives (head_p π k) leaf_of c (Err e) → Walks (body_p π p a k) w c lim (row + 1) row t₀ t₀ (Err e)
+        go (Stop.Refused r n) g = body-stops (record { means = g.means; over = g.over })
+        go Stop.Unfinished g = body-stops (record { means = g.means; over = g.over })
+
     module _ (h : Head) {n : Cursor} (g : Gives (head_p π k) step_of c (Ok (h, n))) {t₁ : List ℕ} where
       pub body-rest : {r : Result (Walked × Cursor) Stop} → Walks (rest_p p a (step_of h)) w n lim (row + 1) row t₀ t₁ r → Walks (body_p π p a k) w c lim (row + 1) row t₀ t₁ r
       body-rest v = walks-as g.over refl (headed c lim (row + 1) g) v

@@ -25,7 +25,7 @@ use Rattle.answers.specs.Answers.{Decoded, meant, seen, view, table_after}
 use Rattle.answers.specs.declared.Answer.{Answer}
 use Rattle.walk.specs.declared.walked.Walked.{Walked}
 use Rattle.walk.specs.Walks.{Walks, Wrote}
-use Rattle.walk.specs.Tops.{moded, typed_p, judged_p, call_p}
+use Rattle.walk.specs.Tops.{moded, typed_p, judged_p, judged_w, call_p}
 use Rattle.heads.specs.declared.Head.{Head}
 use Rattle.heads.specs.declared.Head.TheVariants as head
 use Rattle.heads.specs.Steps.{step_of, array_of}
@@ -129,6 +129,22 @@ module _ (m : Bool) {p : Prog Forest} {c : Cursor} {lim used row : ℕ} {t₀ t�
         let q : (m && eqb (frame_kind f.0) marker_kind) ≡ false = ap (λ (j : ℕ). m && eqb j marker_kind) (sym f.2) ∙ ap (λ (b : Bool). m && b) (sym i) ∙ y in
         judged-run m c.src.now lim p c.at used ∙ rw (f.1, q) refl
 
+module _ (m : Bool) {p : Prog Forest} {w : Bool} {c : Cursor} {lim used row : ℕ} {t₀ t₁ : List ℕ} where
+  -- a walk of a frame, judged, is one of the call's
+  pub judged-walks : (r : Result (Walked × Cursor) Stop) → Walks p w c lim used row t₀ t₁ r → Walks (judged_p m p) w c lim used row t₀ t₁ (judged_w m r)
+  judged-walks (Err e) k = walks-stop (judged-run m c.src.now lim p c.at used ∙ rw (walks-stopped k) (judged-stop m e)) k.kept k.keeps
+  judged-walks (Ok (o, d)) k = go (m && eqb (code_of o.kind) marker_kind) refl
+    where
+      go : (b : Bool) → (m && eqb (code_of o.kind) marker_kind) ≡ b → Walks (judged_p m p) w c lim used row t₀ t₁ (pick b (Err (Stop.Refused Refusal.Marker d.at)) (Ok (o, d)))
+      go true y =
+          let f = walks-done k in
+          let q : (m && eqb (frame_kind f.0) marker_kind) ≡ true = ap (λ (j : ℕ). m && eqb j marker_kind) (sym f.2) ∙ y in
+          walks-stop (judged-run m c.src.now lim p c.at used ∙ rw (f.1, q) refl) k.kept k.keeps
+      go false y =
+          let f = walks-done k in
+          let q : (m && eqb (frame_kind f.0) marker_kind) ≡ false = ap (λ (j : ℕ). m && eqb j marker_kind) (sym f.2) ∙ y in
+          walks-as refl refl (judged-run m c.src.now lim p c.at used ∙ rw (f.1, q) refl) k
+
 -- a frame behind its head
 pub judged-body : (π : Profile) (p : Prog Forest) (a k : ℕ) (m : Bool) {c : Cursor} {lim row : ℕ} {t₀ t₁ : List ℕ} (h : Head) {n : Cursor} → Gives (head_p π k) step_of c (Ok (h, n))
     → {r : Result (Walked × Cursor) Stop} → Walks (judged_p m (rest_p p a (step_of h))) true n lim (row + 1) row t₀ t₁ r → Walks (judged_p m (body_p π p a k)) true c lim (row + 1) row t₀ t₁ r
@@ -170,6 +186,9 @@ hello-stands m π p a k c lim used g {n} v =
 -- ---- a frame by its kind
 
 module _ (π : Profile) (m : Bool) (d k : ℕ) {x : Bool} (i : x ≡ eqb k attribute_kind) {c : Cursor} {lim used row : ℕ} {t₀ t₁ : List ℕ} {r : Result (Walked × Cursor) Stop} where
+  pub call-attribute : x ≡ true → Walks (judged_p m (attribute_p π (frame_p π d))) true c lim used row t₀ t₁ r → Walks (call_p π m d k) true c lim used row t₀ t₁ r
+  call-attribute q v = rw (sym i ∙ q) v
+
   pub call-body : x ≡ false → Walks (judged_p m (body_p π (frame_p π d) 0 k)) true c lim used row t₀ t₁ r → Walks (call_p π m d k) true c lim used row t₀ t₁ r
   call-body q v = rw (sym i ∙ q) v
 

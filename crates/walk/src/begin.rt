@@ -5,7 +5,7 @@ ghost use Rattle.walk.specs.Walks.{Begins};
 
 use crate::hello::hello;
 use crate::walked::{Room, Walked, put_leaf};
-use heads::{Head, head_of, near_array};
+use heads::{Head, head_of, near_holder};
 use kinds::{Kind, Profile};
 use refusal::Stop;
 use text::Cursor;
@@ -47,7 +47,7 @@ pub(crate) fn begin<'a, P: Profile, const WRITE: bool>(
     }
 }
 
-/// The same: the count of an array that the next bytes tell is read with no call.
+/// The same: the count of a holder that the next bytes tell is read with no call.
 #[inline(always)]
 pub(crate) fn begin_near<'a, P: Profile, const WRITE: bool>(
     kind: Option<Kind>,
@@ -59,8 +59,8 @@ pub(crate) fn begin_near<'a, P: Profile, const WRITE: bool>(
     requires { room.used < room.lim }
     ensures { Begins P.profile (coded kind) attribute WRITE c.entry room.lim room.used t.old t.new result }
 {
-    if let Some((n, next)) = near_array::<P>(kind, c) {
-        return Ok((Begun::Holder(Kind::Array, n), next));
+    if let Some(((held, n), next)) = near_holder::<P>(kind, c) {
+        return Ok((Begun::Holder(held, n), next));
     }
     begin::<P, WRITE>(kind, c, t, room, attribute)
 }

@@ -35,7 +35,7 @@ pub(crate) fn is_marker(kind: Kind) -> bool
 }
 
 /// Whether a holder counts pairs.
-fn in_pairs(kind: Kind) -> bool
+pub(crate) fn in_pairs(kind: Kind) -> bool
     ensures { result ≡ in_pairs (code_of kind) }
 {
     match kind {
@@ -52,6 +52,23 @@ fn is_judged(kind: Kind) -> bool
         Kind::Map | Kind::Attribute | Kind::Set => true,
         _ => false,
     }
+}
+
+/// The same of a holder that a protocol has.
+#[inline(always)]
+fn has_pairs<P: Profile>(kind: Kind) -> bool
+    requires { Known P.profile (code_of kind) }
+    ensures { result ≡ in_pairs (code_of kind) }
+{
+    P::THREE && in_pairs(kind)
+}
+
+#[inline(always)]
+fn has_judged<P: Profile>(kind: Kind) -> bool
+    requires { Known P.profile (code_of kind) }
+    ensures { result ≡ is_judged (code_of kind) }
+{
+    P::THREE && is_judged(kind)
 }
 
 /// Whether frames are left after so many. Pairs are counted as they are: no sum of two counts is formed.
@@ -107,7 +124,8 @@ fn frame<'a, P: Profile, const WRITE: bool>(
     }
     let (b, next) = c.byte()?;
     let kind = P::kind(b);
-    if let Some((leaf, end)) = near_head::<P>(kind, next) {
+    if let Some(near) = near_head::<P>(kind, next) {
+        let (leaf, end) = near?;
         put_leaf::<WRITE>(t, room.used, leaf, 0);
         let walked = Walked {
             used: room.used + 1,
@@ -136,7 +154,8 @@ fn body<'a, P: Profile, const WRITE: bool>(
     depth: usize,
     attribute: u64,
 ) -> Result<(Walked, Cursor<'a>), Stop>
-    requires { room.used < room.lim }
+    requires fits { room.used < room.lim }
+    requires known { Known P.profile (coded kind) }
     ensures { Walks (body_p P.profile (frame_p P.profile depth) attribute (coded kind)) WRITE c.entry room.lim (room.used + 1) room.used t.old t.new result }
 {
     let (begun, next) = begin_near::<P, WRITE>(kind, c, t, room, attribute)?;
@@ -192,7 +211,7 @@ pub(crate) fn typed<'a, P: Profile, const WRITE: bool>(
     }
 }
 
-/// A holder's frames, and then its row. `n`: its count as the wire has it, of frames or pairs.
+/// A holder's frames, and then its row. `n`: its count as the wire has it, of frames or pairs. RESP2 has no pairs, and judges none: its loop keeps no more in registers than it needs.
 #[cycle(walk)]
 pub(crate) fn holder<'a, P: Profile, const WRITE: bool>(
     kind: Kind,
@@ -203,11 +222,13 @@ pub(crate) fn holder<'a, P: Profile, const WRITE: bool>(
     depth: usize,
     attribute: u64,
 ) -> Result<(Walked, Cursor<'a>), Stop>
-    requires { room.used < room.lim }
+    requires fits { room.used < room.lim }
+    requires known { Known P.profile (code_of kind) }
     ensures { Walks (rest_p (frame_p P.profile depth) attribute (holder (code_of kind) (frames_of (code_of kind) n))) WRITE c.entry room.lim (room.used + 1) room.used t.old t.new result }
 {
-    let pairs = in_pairs(kind);
-    let judged = is_judged(kind);
+    let pairs = has_pairs::<P>(kind);
+    let judged = has_judged::<P>(kind);
+    // Not a `for` over a range: twice a count of pairs may be more than a u64 holds, and how many were read is word 3.
     let mut place = c;
     let mut used = room.used + 1;
     let mut read: u64 = 0;

@@ -1,64 +1,119 @@
 //! One frame from a place of a buffer, into rows that the caller lends.
-ghost use Rattle.std.specs.Prelude.{◌≡◌, ◌+◌, ◌<◌, OnErr, true};
-ghost use Rattle.meaning.specs.Frames.{frame_p, rest_p, holder};
-ghost use Rattle.kinds.specs.Codes.{code_of, coded};
-ghost use Rattle.heads.specs.Steps.{frames_of};
+ghost use Rattle.std.specs.Prelude.{◌≡◌, ◌+◌, ◌*◌, ◌≤◌, ◌<◌, length, OnErr, true};
+ghost use Rattle.meaning.specs.Rows.{row_width, most_rows};
+ghost use Rattle.kinds.specs.Codes.{coded};
 ghost use Rattle.answers.specs.Answers.{Decoded};
 ghost use Rattle.walk.specs.Walks.{Walks};
-ghost use Rattle.walk.specs.Tops.{Known, moded, judged_p, call_p};
+ghost use Rattle.walk.specs.Tops.{Known, Holds, moded, held_p, judged_p, call_p};
 
-use crate::frames::{anew, holder, is_attribute, is_marker, typed};
+use crate::apart::{FEW, Held, NESTED, apart, rows_to_try, walk_held};
+use crate::frames::{anew, is_attribute, is_marker};
 use crate::hello::hello;
 use crate::walked::{Room, Walked, put_leaf};
 use answers::Answer;
-use heads::{Head, head_of, near_array, near_head};
+use heads::{Head, head_of, near_head, near_holder};
 use kinds::{Kind, Profile};
 use refusal::{Refusal, Stop};
 use text::Cursor;
 
-/// A holder's frames at the top, and its row: walked without a row written first, so that what is refused or unfinished leaves t.
+/// A holder or an attribute at the top: walked without a row written first, so that what is refused or unfinished leaves t.
 #[inline(never)]
-fn top_holder<'a, P: Profile>(
-    kind: Kind,
-    n: u64,
+fn twice<'a, P: Profile>(
+    held: Held,
     c: Cursor<'a>,
     t: &mut [u64],
-    room: Room,
+    lim: usize,
     depth: usize,
     complete: bool,
 ) -> Result<(Walked, Cursor<'a>), Stop>
-    requires { room.used < room.lim }
-    ensures walks { Walks (judged_p complete (rest_p (frame_p P.profile depth) 0 (holder (code_of kind) (frames_of (code_of kind) n)))) true c.entry room.lim (room.used + 1) room.used t.old t.new result }
+    requires one { 0 < lim }
+    requires few { lim ≤ most_rows }
+    requires known { Holds P.profile held }
+    ensures walks { Walks (judged_p complete (held_p P.profile depth held)) true c.entry lim 1 0 t.old t.new result }
     ensures kept { OnErr result (t.new ≡ t.old) }
 {
-    let (walked, end) = holder::<P, false>(kind, n, c, t, room, depth, 0)?;
+    let room = Room { lim, used: 0 };
+    let (walked, end) = walk_held::<P, false>(held, c, t, room, depth)?;
     if complete & is_marker(walked.kind) {
         return Err(Stop::Refused(Refusal::Marker, end.at));
     }
-    holder::<P, true>(kind, n, c, t, room, depth, 0)
+    walk_held::<P, true>(held, c, t, room, depth)
 }
 
-/// The frame at the top, behind its type byte, whatever it is. A leaf's row is written at once, and a HELLO's rows; an attribute is walked without a row written first, as a holder is.
+/// The same, first in ROWS rows beside the table, where it is walked once.
+#[inline(always)]
+fn tried<'a, P: Profile, const ROWS: usize>(
+    held: Held,
+    c: Cursor<'a>,
+    t: &mut [u64],
+    lim: usize,
+    depth: usize,
+    complete: bool,
+) -> Result<(Walked, Cursor<'a>), Stop>
+    requires rows { (0 < ROWS) × (ROWS ≤ most_rows) }
+    requires one { 0 < lim }
+    requires few { lim ≤ most_rows }
+    requires table { row_width * lim ≤ length t.old }
+    requires known { Holds P.profile held }
+    ensures walks { Walks (judged_p complete (held_p P.profile depth held)) true c.entry lim 1 0 t.old t.new result }
+    ensures kept { OnErr result (t.new ≡ t.old) }
+{
+    if let Some(walk) = apart::<P, ROWS>(held, c, t, lim, depth, complete) {
+        return walk;
+    }
+    twice::<P>(held, c, t, lim, depth, complete)
+}
+
+/// The same, tried in as many rows as its first bytes ask for.
+#[inline(always)]
+fn top_held<'a, P: Profile>(
+    held: Held,
+    c: Cursor<'a>,
+    t: &mut [u64],
+    lim: usize,
+    depth: usize,
+    complete: bool,
+) -> Result<(Walked, Cursor<'a>), Stop>
+    requires one { 0 < lim }
+    requires few { lim ≤ most_rows }
+    requires table { row_width * lim ≤ length t.old }
+    requires known { Holds P.profile held }
+    ensures walks { Walks (judged_p complete (held_p P.profile depth held)) true c.entry lim 1 0 t.old t.new result }
+    ensures kept { OnErr result (t.new ≡ t.old) }
+{
+    let most = rows_to_try(held, c);
+    if most == FEW {
+        return tried::<P, FEW>(held, c, t, lim, depth, complete);
+    }
+    // In RESP2 half of IMRAZGUL_STACK holds for all, and those rows are too many beside 32 arrays in one another.
+    if P::THREE && most == NESTED {
+        return tried::<P, NESTED>(held, c, t, lim, depth, complete);
+    }
+    twice::<P>(held, c, t, lim, depth, complete)
+}
+
+/// The frame at the top, behind its type byte, whatever it is. The count of a holder that the next bytes tell is read with no call; a leaf's row is written at once, and a HELLO's rows.
 #[inline(never)]
 fn far_frame<'a, P: Profile>(
     kind: Option<Kind>,
     c: Cursor<'a>,
     t: &mut [u64],
-    room: Room,
+    lim: usize,
     depth: usize,
     complete: bool,
 ) -> Result<(Walked, Cursor<'a>), Stop>
-    requires fits { room.used < room.lim }
+    requires one { 0 < lim }
+    requires few { lim ≤ most_rows }
+    requires table { row_width * lim ≤ length t.old }
     requires known { Known P.profile (coded kind) }
-    ensures walks { Walks (call_p P.profile complete depth (coded kind)) true c.entry room.lim (room.used + 1) room.used t.old t.new result }
+    ensures walks { Walks (call_p P.profile complete depth (coded kind)) true c.entry lim 1 0 t.old t.new result }
     ensures kept { OnErr result (t.new ≡ t.old) }
 {
     if is_attribute::<P>(kind) {
-        let (carrier, end) = typed::<P, false>(kind, c, t, room, depth)?;
-        if complete & is_marker(carrier.kind) {
-            return Err(Stop::Refused(Refusal::Marker, end.at));
-        }
-        return typed::<P, true>(kind, c, t, room, depth);
+        return top_held::<P>(Held::Attribute, c, t, lim, depth, complete);
+    }
+    if let Some(((held, n), next)) = near_holder::<P>(kind, c) {
+        return top_held::<P>(Held::Frames(held, n), next, t, lim, depth, complete);
     }
     let (head, next) = head_of::<P>(kind, c)?;
     match head {
@@ -66,46 +121,79 @@ fn far_frame<'a, P: Profile>(
             if complete & is_marker(leaf.kind) {
                 return Err(Stop::Refused(Refusal::Marker, next.at));
             }
-            put_leaf::<true>(t, room.used, leaf, 0);
+            put_leaf::<true>(t, 0, leaf, 0);
             let walked = Walked {
-                used: room.used + 1,
+                used: 1,
                 kind: leaf.kind,
             };
             Ok((walked, next))
         }
-        Head::Hello(g) => hello::<true>(g, next, t, room, 0),
-        Head::Holder(kind, n) => top_holder::<P>(kind, n, next, t, room, depth, complete),
+        Head::Hello(g) => hello::<true>(g, next, t, Room { lim, used: 0 }, 0),
+        Head::Holder(kind, n) => {
+            top_held::<P>(Held::Frames(kind, n), next, t, lim, depth, complete)
+        }
     }
 }
 
-/// The same: a leaf or the count of an array that the next bytes tell is read here, without the stack that the rest takes.
-#[inline(always)]
+/// The same: a leaf that the next bytes tell is read here, without the stack that the rest takes. A function of its own, so that `decode`, which is short, is compiled into the exported calls: what has no byte is answered there.
+#[inline(never)]
 fn top_frame<'a, P: Profile>(
     kind: Option<Kind>,
     c: Cursor<'a>,
     t: &mut [u64],
-    room: Room,
+    lim: usize,
     depth: usize,
     complete: bool,
 ) -> Result<(Walked, Cursor<'a>), Stop>
-    requires fits { room.used < room.lim }
+    requires one { 0 < lim }
+    requires few { lim ≤ most_rows }
+    requires table { row_width * lim ≤ length t.old }
     requires known { Known P.profile (coded kind) }
-    ensures walks { Walks (call_p P.profile complete depth (coded kind)) true c.entry room.lim (room.used + 1) room.used t.old t.new result }
+    ensures walks { Walks (call_p P.profile complete depth (coded kind)) true c.entry lim 1 0 t.old t.new result }
     ensures kept { OnErr result (t.new ≡ t.old) }
 {
-    if let Some((near, next)) = near_head::<P>(kind, c) {
-        put_leaf::<true>(t, room.used, near, 0);
+    if let Some(read) = near_head::<P>(kind, c) {
+        let (near, next) = read?;
+        put_leaf::<true>(t, 0, near, 0);
         let walked = Walked {
-            used: room.used + 1,
+            used: 1,
             kind: near.kind,
         };
         return Ok((walked, next));
     }
-    if let Some((n, next)) = near_array::<P>(kind, c) {
-        let array = Kind::Array;
-        return anew(top_holder::<P>(array, n, next, t, room, depth, complete));
+    anew(far_frame::<P>(kind, c, t, lim, depth, complete))
+}
+
+/// Whether it is a holder's kind.
+#[inline(always)]
+fn is_holder(kind: Option<Kind>) -> bool {
+    matches!(
+        kind,
+        Some(Kind::Array | Kind::Map | Kind::Set | Kind::Push | Kind::Attribute)
+    )
+}
+
+/// The same: a holder is no near leaf, and has one call less.
+#[inline(always)]
+fn top<'a, P: Profile>(
+    kind: Option<Kind>,
+    c: Cursor<'a>,
+    t: &mut [u64],
+    lim: usize,
+    depth: usize,
+    complete: bool,
+) -> Result<(Walked, Cursor<'a>), Stop>
+    requires one { 0 < lim }
+    requires few { lim ≤ most_rows }
+    requires table { row_width * lim ≤ length t.old }
+    requires known { Known P.profile (coded kind) }
+    ensures walks { Walks (call_p P.profile complete depth (coded kind)) true c.entry lim 1 0 t.old t.new result }
+    ensures kept { OnErr result (t.new ≡ t.old) }
+{
+    if is_holder(kind) {
+        return far_frame::<P>(kind, c, t, lim, depth, complete);
     }
-    anew(far_frame::<P>(kind, c, t, room, depth, complete))
+    top_frame::<P>(kind, c, t, lim, depth, complete)
 }
 
 /// One frame from a place of src on, its rows in t, with at most `depth` frames in one another; where it is not `complete`, a marker is an answer too. An unfinished or refused decode leaves t as it was.
@@ -130,8 +218,7 @@ pub fn decode<P: Profile>(
         return Err(Stop::Unfinished);
     }
     let (b, c) = Cursor { src, at }.byte()?;
-    let room = Room { lim, used: 0 };
-    let (walked, end) = top_frame::<P>(P::kind(b), c, t, room, depth - 1, complete)?;
+    let (walked, end) = top::<P>(P::kind(b), c, t, lim, depth - 1, complete)?;
     let n = end.at - at;
     if is_marker(walked.kind) {
         return Ok(Answer::Marker(n, walked.used));

@@ -9,7 +9,7 @@ use kinds::Kind;
 use leaf::Leaf;
 use rows::Row;
 
-/// How many rows a walk may use, and how many are used.
+/// How many rows a walk may use, and how many are used. That one is left is no part of the type: a walk may end with none. It is handed on beside the cursor, the table and the depth: a call changes all but the table, so that a struct of them would be made anew at each.
 #[derive(Clone, Copy)]
 pub struct Room {
     pub lim: usize,
@@ -21,8 +21,8 @@ pub struct Room {
 /// How many rows are used behind a frame, and the frame's kind.
 #[derive(Clone, Copy)]
 pub struct Walked {
-    pub used: usize,
     pub kind: Kind,
+    pub used: usize,
 }
 
 /// A row, written where WRITE is true.

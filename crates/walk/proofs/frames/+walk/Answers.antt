@@ -3,7 +3,7 @@ use Rattle.std.proofs.Common.{rules, arith, refl, sym, ◌∙◌}
 use Rattle.std.proofs.lemmas.Result.{err_from_is_err_and}
 use Rattle.kinds.specs.Codes.{code_of}
 use Rattle.walk.proofs.Keys.{turn-start, turn-used, turn-next, turn-stops, turn-marked, turn-misfit, turn-ends, more_left, none_left}
-use Rattle.walk.proofs.Steps.{frame-0, frame-no-room, frame-stops, frame-rest, typed-body, body-near, body-array, body-rest}
+use Rattle.walk.proofs.Steps.{frame-0, frame-no-room, frame-stops, frame-rest, typed-body, near-stops, body-near, body-array, body-rest}
 use Rattle.walk.proofs.Parts.{own, known, part-stops, part-dropped, part-ends, part-full, part-short, part-twice, part-next}
 use Rattle.walk.proofs.frames.+walk.Goals as goal
 
@@ -20,9 +20,16 @@ frame-returns-in_err-b g t c =
     let q = err_from_is_err_and c.from_residual.result c.from_residual.ensures.1 in
     rw (q.1, q.2) (frame-stops _ _ c.if-depth-eq0.false (omega arith) c.in_err-b.ensures)
 
+pub frame-returns-in_err-leaf : goal.frame-returns-in_err-leaf
+frame-returns-in_err-leaf g t c =
+    let q = err_from_is_err_and c.from_residual-in_err-leaf.result c.from_residual-in_err-leaf.ensures.1 in
+    let read = rw c.in_err-leaf.was at c.in-Some.ensures.read in
+    rw (q.1, q.2) (frame-rest _ _ c.if-depth-eq0.false (omega arith) _ c.in_ok-b.ensures c.kind-kind.ensures (typed-body _ _ _ c.in-Some.ensures.plain (near-stops _ _ _ _ read)))
+
 pub frame-returns-in-Some : goal.frame-returns-in-Some
 frame-returns-in-Some g t c =
-    frame-rest _ _ c.if-depth-eq0.false (omega arith) _ c.in_ok-b.ensures c.kind-kind.ensures (typed-body _ _ _ c.in-Some.ensures.plain (body-near _ _ _ _ _ c.in-Some.ensures.read (omega arith) c.args.room.few c.put_leaf.ensures))
+    let read = rw c.in_ok-leaf.was at c.in-Some.ensures.read in
+    frame-rest _ _ c.if-depth-eq0.false (omega arith) _ c.in_ok-b.ensures c.kind-kind.ensures (typed-body _ _ _ c.in-Some.ensures.plain (body-near _ _ _ _ _ read (omega arith) c.args.room.few c.put_leaf.ensures))
 
 pub frame-returns-in-Some-near_array : goal.frame-returns-in-Some-near_array
 frame-returns-in-Some-near_array g t c =
@@ -37,7 +44,10 @@ frame-returns-then-THREE g t c =
 
 pub frame-returns : goal.frame-returns
 frame-returns g t c =
-    rw c.anew-2.ensures (frame-rest _ _ c.if-depth-eq0.false (omega arith) _ c.in_ok-b.ensures c.kind-kind.ensures (typed-body _ _ _ (known _ _ _ c.kind-kind.ensures (g.met.P.Profile.three ∙ sym c.THREE.ensures ∙ c.if-THREE.false)) c.body.ensures))
+    rw c.anew-2.ensures (frame-rest _ _ c.if-depth-eq0.false (omega arith) _ c.in_ok-b.ensures c.kind-kind.ensures (typed-body _ _ _ ((known _ _ _ c.kind-kind.ensures (g.met.P.Profile.three ∙ sym c.THREE.ensures ∙ c.if-THREE.false)).0) c.body.ensures))
+
+pub frame-body-requires : goal.frame-body-requires
+frame-body-requires g t c = let k = known _ _ _ c.kind-kind.ensures in search rules
 
 -- ---- a frame behind its type byte
 
@@ -99,32 +109,32 @@ typed-loop-walked-preserved g t c =
 -- ---- a holder's frames
 
 pub holder-loop-left-init : goal.holder-loop-left-init
-holder-loop-left-init g t c = (omega arith, omega arith, omega arith, turn-start c.requires)
+holder-loop-left-init g t c = (omega arith, omega arith, omega arith, turn-start c.requires.fits)
 
 pub holder-returns-in_err-walked : goal.holder-returns-in_err-walked
 holder-returns-in_err-walked g t c =
     let q = err_from_is_err_and c.from_residual.result c.from_residual.ensures.1 in
-    let more = more_left (code_of c.args.kind) c.loop-left.read c.args.n c.in_pairs-pairs.ensures c.is_more.ensures c.loop-left-test.true in
+    let more = more_left (code_of c.args.kind) c.loop-left.read c.args.n c.has_pairs-pairs.ensures c.is_more.ensures c.loop-left-test.true in
     rw (q.1, q.2) (turn-stops c.loop-left.invariant.3 _ more c.in_err-walked.ensures)
 
 pub holder-returns-then-is_marker : goal.holder-returns-then-is_marker
 holder-returns-then-is_marker g t c =
-    let more = more_left (code_of c.args.kind) c.loop-left.read c.args.n c.in_pairs-pairs.ensures c.is_more.ensures c.loop-left-test.true in
+    let more = more_left (code_of c.args.kind) c.loop-left.read c.args.n c.has_pairs-pairs.ensures c.is_more.ensures c.loop-left-test.true in
     turn-marked c.loop-left.invariant.3 _ more c.is_marker.ensures c.if-is_marker.true c.in_ok-walked.ensures
 
 pub holder-loop-left-preserved : goal.holder-loop-left-preserved
 holder-loop-left-preserved g t c =
-    let more = more_left (code_of c.args.kind) c.loop-left.read c.args.n c.in_pairs-pairs.ensures c.is_more.ensures c.loop-left-test.true in
+    let more = more_left (code_of c.args.kind) c.loop-left.read c.args.n c.has_pairs-pairs.ensures c.is_more.ensures c.loop-left-test.true in
     let next = turn-next c.loop-left.invariant.3 more c.is_marker.ensures c.if-is_marker.false c.in_ok-walked.ensures in
     let rows = turn-used next in
-    (rows.2, rows.0, rows.1, rw (c.is_fit-fit.ensures, c.is_judged-judged.ensures, c.in_pairs-pairs.ensures) next)
+    (rows.2, rows.0, rows.1, rw (c.is_fit-fit.ensures, c.has_judged-judged.ensures, c.has_pairs-pairs.ensures) next)
 
 pub holder-returns-then-not-fit : goal.holder-returns-then-not-fit
 holder-returns-then-not-fit g t c =
-    let none = none_left (code_of c.args.kind) c.loop-left.read c.args.n c.in_pairs-pairs.ensures c.is_more.ensures c.loop-left-test.false in
+    let none = none_left (code_of c.args.kind) c.loop-left.read c.args.n c.has_pairs-pairs.ensures c.is_more.ensures c.loop-left-test.false in
     turn-misfit c.loop-left.invariant.3 _ none c.if-not-fit.true
 
 pub holder-returns : goal.holder-returns
 holder-returns g t c =
-    let none = none_left (code_of c.args.kind) c.loop-left.read c.args.n c.in_pairs-pairs.ensures c.is_more.ensures c.loop-left-test.false in
-    turn-ends c.loop-left.invariant.3 _ none c.if-not-fit.false c.requires c.args.room.few c.args.kind refl (rw c.code.ensures at c.put.ensures)
+    let none = none_left (code_of c.args.kind) c.loop-left.read c.args.n c.has_pairs-pairs.ensures c.is_more.ensures c.loop-left-test.false in
+    turn-ends c.loop-left.invariant.3 _ none c.if-not-fit.false c.requires.fits c.args.room.few c.args.kind refl (rw c.code.ensures at c.put.ensures)

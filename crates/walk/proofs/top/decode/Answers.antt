@@ -19,8 +19,8 @@ returns-in_err-b g c =
     let q = err_from_is_err_and c.from_residual.result c.from_residual.ensures.1 in
     rw (q.1, q.2) (decoded-short g.P.Profile.profile c.args.complete _ c.if-depth-eq0.false _ (omega arith) _ _ c.rows_of-lim.ensures c.in_err-b.ensures)
 
-pub top_frame-requires-clause-known : goal.top_frame-requires-clause-known
-top_frame-requires-clause-known g c = known _ _ _ c.kind.ensures
+pub top-requires-clause-known : goal.top-requires-clause-known
+top-requires-clause-known g c = known _ _ _ c.kind.ensures
 
 pub returns-in_err-walked : goal.returns-in_err-walked
 returns-in_err-walked g c =
