@@ -3,8 +3,8 @@
 
 ghost use Rattle.std.specs.Prelude.{◌≡◌, ℕ, false, eqb, Ok, IfOk, IfSome};
 ghost use Rattle.meaning.specs.Prog.{Prog};
-ghost use Rattle.meaning.specs.Kinds.{resp3, blob_string_kind, array_kind, attribute_kind, marker_kind};
-ghost use Rattle.meaning.specs.Frames.{Step, double_p, length_p, holder_p, hello_p, head_p, type_p};
+ghost use Rattle.meaning.specs.Kinds.{resp3, array_kind, attribute_kind, marker_kind};
+ghost use Rattle.meaning.specs.Frames.{Step, length_p, holder_p, hello_p, head_p, type_p};
 ghost use Rattle.kinds.specs.Codes.{code_of, coded};
 ghost use Rattle.text.specs.declared.cursor.Cursor.{Cursor};
 ghost use Rattle.text.specs.Reads.{Gives};
@@ -16,7 +16,7 @@ use leaf::{Leaf, absent, bulk, count, number, text_line};
 use leaf3::{blank, boolean, chunk, double, verbatim};
 use refusal::{Refusal, Stop};
 use text::Cursor;
-use text::number::{near_absent, near_digits, near_number};
+use text::number::{near_absent, near_digits};
 use text3::hello::Greeting;
 
 /// What a frame's first lines say.
@@ -90,8 +90,8 @@ fn greeting<'a>(c: Cursor<'a>) -> Result<(Head, Cursor<'a>), Stop>
     Ok((Head::Hello(greeting), next))
 }
 
-/// A frame of one line, or a Verbatim string, of a kind that RESP3 alone has, behind its type byte. None: nothing is said.
-#[tactic(auto, using(text::proofs::Chain::reading, leaf::proofs::Programs::reads_length), unfolding(meaning::specs::Frames::head_p))]
+/// A frame of one line, of a kind that RESP3 alone has, behind its type byte. None: nothing is said.
+#[tactic(auto, unfolding(meaning::specs::Frames::head_p))]
 #[inline(always)]
 fn near_word<'a, P: Profile>(
     kind: Option<Kind>,
@@ -108,10 +108,6 @@ fn near_word<'a, P: Profile>(
         Some(Kind::Null) => Some(blank(c, Kind::Null)),
         Some(Kind::Boolean) => Some(boolean(c)),
         Some(Kind::Double) => Some(double(c)),
-        Some(Kind::Verbatim) => {
-            let (n, next) = near_digits(c)?;
-            Some(verbatim(next, n))
-        }
         _ => None,
     }
 }
@@ -133,27 +129,54 @@ fn near_line<'a, P: Profile>(
     }
 }
 
-/// RESP2's Null in a bulk string's place, behind its type byte. None: nothing is said.
+/// RESP2's Null in the place of a bulk string or an array, behind its type byte. None: nothing is said.
 #[tactic(auto, using(text::proofs::Chain::reading, leaf::proofs::Programs::reads_length))]
 #[inline(always)]
-fn near_null<'a, P: Profile>(c: Cursor<'a>) -> Option<Result<(Leaf, Cursor<'a>), Stop>>
+fn near_null<'a, P: Profile>(
+    kind: Option<Kind>,
+    c: Cursor<'a>,
+) -> Option<Result<(Leaf, Cursor<'a>), Stop>>
+    ensures plain { IfSome result (λ r. eqb (coded kind) attribute_kind ≡ false) }
     ensures unmarked { IfSome result (λ r. IfOk r (λ x. eqb (code_of x.0.kind) marker_kind ≡ false)) }
-    ensures read { IfSome result (λ r. Gives (length_p P.profile blob_string_kind (sized_p blob_string_kind)) leaf_of c.entry r) }
+    ensures read { IfSome result (λ r. Gives (head_p P.profile (coded kind)) leaf_of c.entry r) }
 {
     if P::THREE {
         return None;
     }
-    let next = near_absent(c)?;
-    let leaf = Leaf {
-        kind: Kind::Null,
-        w1: 0,
-        w2: 0,
-        w3: 0,
-    };
-    Some(Ok((leaf, next)))
+    match kind? {
+        Kind::BlobString | Kind::Array => {
+            let next = near_absent(c)?;
+            let leaf = Leaf {
+                kind: Kind::Null,
+                w1: 0,
+                w2: 0,
+                w3: 0,
+            };
+            Some(Ok((leaf, next)))
+        }
+        _ => None,
+    }
 }
 
-/// A leaf that the next bytes tell, behind its type byte: a Number, a bulk string, or what `near_line` reads, or what stops it; with no call that answers in memory, so that the loop over a holder's frames keeps its state in registers. None: nothing is said.
+/// A text of n bytes, behind its length, of a kind that the protocol has: beside `text`, so that what only RESP3 has is no part of RESP2's code. None: nothing is said.
+#[inline(always)]
+fn near_sized<'a, P: Profile>(
+    kind: Kind,
+    c: Cursor<'a>,
+    n: u64,
+) -> Option<Result<(Leaf, Cursor<'a>), Stop>>
+    ensures unmarked { IfSome result (λ r. IfOk r (λ x. eqb (code_of x.0.kind) marker_kind ≡ false)) }
+    ensures read { IfSome result (λ r. Gives (sized_p (code_of kind) n) leaf_of c.entry r) }
+{
+    match kind {
+        Kind::BlobString | Kind::BlobError => Some(bulk(c, kind, n)),
+        Kind::Verbatim if P::THREE => Some(verbatim(c, n)),
+        Kind::ChunkedString if P::THREE => Some(chunk(c, n)),
+        _ => None,
+    }
+}
+
+/// A leaf, behind its type byte, or what stops it: a Number, a text behind a short length, RESP2's Null, or what `near_line` reads; with no call that answers in memory, so that the loop over a holder's frames keeps its state in registers. None: nothing is said.
 #[tactic(auto, using(text::proofs::Chain::reading, leaf::proofs::Programs::reads_number, leaf::proofs::Programs::reads_length), unfolding(meaning::specs::Frames::head_p))]
 #[inline(always)]
 pub fn near_head<'a, P: Profile>(
@@ -165,24 +188,16 @@ pub fn near_head<'a, P: Profile>(
     ensures read { IfSome result (λ r. Gives (head_p P.profile (coded kind)) leaf_of c.entry r) }
 {
     match kind {
-        Some(Kind::Number) => {
-            let (value, next) = near_number(c)?;
-            let leaf = Leaf {
-                kind: Kind::Number,
-                w1: value,
-                w2: 0,
-                w3: 0,
-            };
-            Some(Ok((leaf, next)))
-        }
-        Some(Kind::BlobString) => {
+        Some(Kind::Number) => return Some(number(c)),
+        Some(Kind::BlobString | Kind::BlobError | Kind::Verbatim | Kind::ChunkedString) => {
             if let Some((n, next)) = near_digits(c) {
-                return Some(bulk(next, Kind::BlobString, n));
+                return near_sized::<P>(kind?, next, n);
             }
-            near_null::<P>(c)
         }
-        _ => near_line::<P>(kind, c),
+        Some(Kind::Array) => {}
+        _ => return near_line::<P>(kind, c),
     }
+    near_null::<P>(kind, c)
 }
 
 /// The count of an array that the next bytes tell, behind its type byte. None: nothing is said.

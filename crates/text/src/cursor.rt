@@ -13,7 +13,9 @@ pub struct Cursor<'a> {
 }
 
 impl<'a> Cursor<'a> {
-    ghost use Rattle.std.specs.Prelude.{◌≡◌, ◌+◌, ◌≤◌, length, IfOk};
+    ghost use Rattle.std.specs.Prelude.{◌≡◌, ◌+◌, ◌≤◌, length, drop, IfOk, IfSome};
+    ghost use Rattle.meaning.specs.Demand.{line_len};
+    ghost use Rattle.text.specs.Lines.{found_of};
     ghost use Rattle.text.specs.Reads.{Gives, Over, reads, told, byte_p, skip_p, text_p};
 
     /// The next byte.
@@ -71,14 +73,16 @@ impl<'a> Cursor<'a> {
         }
     }
 
-    /// The text of the line that starts here, without its CR LF.
+    /// The text of the line that starts here and ends at a place, without its CR LF; none: the line has no end yet.
     #[inline(always)]
     #[tactic(auto, using(crate::proofs::Chain::finding))]
-    pub fn line(self) -> Result<(&'a [u8], Cursor<'a>), Stop>
+    fn line_to(self, end: Option<usize>) -> Result<(&'a [u8], Cursor<'a>), Stop>
+        requires value { end ≡ found_of self.at (line_len (drop self.at self.src.now)) }
+        requires bounds { IfSome end (λ n. (self.at + 2 ≤ n) × (n ≤ length self.src.now)) }
         ensures text { Gives text_p (λ t. t.now) self.entry result }
         ensures place { IfOk result (λ r. self.entry.at + length r.0.now + 2 ≡ r.1.at) }
     {
-        match scan::line_end(self.src, self.at) {
+        match end {
             Some(next) => Ok((
                 &self.src[self.at..next - 2],
                 Cursor {
@@ -88,5 +92,23 @@ impl<'a> Cursor<'a> {
             )),
             None => Err(Stop::Unfinished),
         }
+    }
+
+    /// The text of the line that starts here, without its CR LF.
+    #[inline(always)]
+    pub fn line(self) -> Result<(&'a [u8], Cursor<'a>), Stop>
+        ensures text { Gives text_p (λ t. t.now) self.entry result }
+        ensures place { IfOk result (λ r. self.entry.at + length r.0.now + 2 ≡ r.1.at) }
+    {
+        self.line_to(scan::line_end(self.src, self.at))
+    }
+
+    /// The same, by a call that looks for its end: little code, for a line that is seldom read in the loop that asks.
+    #[inline(always)]
+    pub fn far_line(self) -> Result<(&'a [u8], Cursor<'a>), Stop>
+        ensures text { Gives text_p (λ t. t.now) self.entry result }
+        ensures place { IfOk result (λ r. self.entry.at + length r.0.now + 2 ≡ r.1.at) }
+    {
+        self.line_to(scan::called_line_end(self.src, self.at))
     }
 }

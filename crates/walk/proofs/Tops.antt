@@ -1,6 +1,7 @@
 -- The whole call, complete or streaming: a marker at its top, a walk that writes nothing and then one that writes, and the answer.
-use Rattle.std.specs.Prelude.{◌≡◌, Bool, true, false, ◌&&◌, ◌||◌, ℕ, zero, suc, ◌+◌, ◌-◌, ◌*◌, ◌≤◌, ◌<◌, List, Some, Result, Ok, Err, length, take, get_or, eqb}
+use Rattle.std.specs.Prelude.{◌≡◌, Bool, true, false, ◌&&◌, ◌||◌, ℕ, zero, suc, ◌+◌, ◌-◌, ◌*◌, ◌/◌, ◌≤◌, ◌<◌, List, Some, Result, Ok, Err, length, take, get_or, eqb}
 use Rattle.std.proofs.Common.{refl, sym, ap, subst, ◌∙◌, arith, ne_eqb}
+use Rattle.std.proofs.Math.Nat.{min-le_right}
 use Rattle.std.proofs.Math.Path.{fun_ext}
 use Rattle.std.proofs.Math.Option as math
 use Rattle.std.proofs.lemmas.List.Edits.{sets}
@@ -10,7 +11,7 @@ use Rattle.meaning.specs.Text.{Length, count, minus_one}
 use Rattle.meaning.specs.Prog.{Prog, ret, refuse, room, here, ask, bind, run, Out, done, refused, unfinished}
 use Rattle.meaning.specs.ProgLaws.{then, run_bind, When, gives-run, Settled, ends, starts}
 use Rattle.meaning.specs.Kinds.{Profile, kind_of, array_kind, map_kind, attribute_kind, hello_kind, marker_kind}
-use Rattle.meaning.specs.Rows.{Forest, frame_kind, words, rows_in}
+use Rattle.meaning.specs.Rows.{Forest, frame_kind, words, row_width, rows_in, most_rows}
 use Rattle.meaning.specs.Frames.{Step, greeting, holder, bulk_p, verbatim_p, chunk_p, sized, length_for, length_p, head_p, body_p, rest_p, carries_p, annotated_p, attribute_p, frame_p, decode_p}
 use Rattle.meaning.specs.Decode.{outcome_of, decode}
 use Rattle.meaning.specs.FramesLaws.{Item, item_of, rest-item}
@@ -234,6 +235,10 @@ module _ (π : Profile) (d : ℕ) (s t₀ : List ℕ) (at lim : ℕ) (e : lim �
     decoded-frame y =
         let h : eqb (frame_kind f) marker_kind ≡ false = ap (λ (k : ℕ). eqb k marker_kind) (sym i) ∙ y in
         record { says = rw (meant-is, q, h) refl; leaves = l ∙ rw (meant-is, q, h) refl }
+
+-- a table has no more rows than are used
+pub few : (lim n : ℕ) → lim ≡ rows_in n → lim ≤ most_rows
+few lim n e = rw e (min-le_right (n / row_width) most_rows)
 
 module _ (π : Profile) (m : Bool) (d : ℕ) where
   pub decoded-deep : (s t₀ : List ℕ) (at : ℕ) → d ≡ 0 → Decoded (moded π m) d s at t₀ t₀ (Err (Stop.Refused Refusal.Depth at))

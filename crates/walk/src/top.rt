@@ -1,6 +1,6 @@
 //! One frame from a place of a buffer, into rows that the caller lends.
-ghost use Rattle.std.specs.Prelude.{◌≡◌, ◌+◌, ◌*◌, ◌≤◌, ◌<◌, length, OnErr, true};
-ghost use Rattle.meaning.specs.Rows.{row_width, most_rows};
+ghost use Rattle.std.specs.Prelude.{◌≡◌, ◌*◌, ◌≤◌, ◌<◌, length, OnErr, true};
+ghost use Rattle.meaning.specs.Rows.{row_width, rows_in, most_rows};
 ghost use Rattle.kinds.specs.Codes.{coded};
 ghost use Rattle.answers.specs.Answers.{Decoded};
 ghost use Rattle.walk.specs.Walks.{Walks};
@@ -98,17 +98,15 @@ fn far_frame<'a, P: Profile>(
     kind: Option<Kind>,
     c: Cursor<'a>,
     t: &mut [u64],
-    lim: usize,
     depth: usize,
     complete: bool,
 ) -> Result<(Walked, Cursor<'a>), Stop>
-    requires one { 0 < lim }
-    requires few { lim ≤ most_rows }
-    requires table { row_width * lim ≤ length t.old }
+    requires one { 0 < rows_in (length t.old) }
     requires known { Known P.profile (coded kind) }
-    ensures walks { Walks (call_p P.profile complete depth (coded kind)) true c.entry lim 1 0 t.old t.new result }
+    ensures walks { Walks (call_p P.profile complete depth (coded kind)) true c.entry (rows_in (length t.old)) 1 0 t.old t.new result }
     ensures kept { OnErr result (t.new ≡ t.old) }
 {
+    let lim = rows::rows_of(t.len());
     if is_attribute::<P>(kind) {
         return top_held::<P>(Held::Attribute, c, t, lim, depth, complete);
     }
@@ -141,15 +139,12 @@ fn top_frame<'a, P: Profile>(
     kind: Option<Kind>,
     c: Cursor<'a>,
     t: &mut [u64],
-    lim: usize,
     depth: usize,
     complete: bool,
 ) -> Result<(Walked, Cursor<'a>), Stop>
-    requires one { 0 < lim }
-    requires few { lim ≤ most_rows }
-    requires table { row_width * lim ≤ length t.old }
+    requires one { 0 < rows_in (length t.old) }
     requires known { Known P.profile (coded kind) }
-    ensures walks { Walks (call_p P.profile complete depth (coded kind)) true c.entry lim 1 0 t.old t.new result }
+    ensures walks { Walks (call_p P.profile complete depth (coded kind)) true c.entry (rows_in (length t.old)) 1 0 t.old t.new result }
     ensures kept { OnErr result (t.new ≡ t.old) }
 {
     if let Some(read) = near_head::<P>(kind, c) {
@@ -161,39 +156,38 @@ fn top_frame<'a, P: Profile>(
         };
         return Ok((walked, next));
     }
-    anew(far_frame::<P>(kind, c, t, lim, depth, complete))
+    anew(far_frame::<P>(kind, c, t, depth, complete))
 }
 
-/// Whether it is a holder's kind.
+/// Whether it is a holder, and so no near leaf: in RESP2 one that no minus follows. It chooses a way, and no answer.
 #[inline(always)]
-fn is_holder(kind: Option<Kind>) -> bool {
-    matches!(
-        kind,
-        Some(Kind::Array | Kind::Map | Kind::Set | Kind::Push | Kind::Attribute)
-    )
+fn is_far<P: Profile>(kind: Option<Kind>, c: Cursor) -> bool {
+    match kind {
+        Some(Kind::Array | Kind::Map | Kind::Set | Kind::Push | Kind::Attribute) => {
+            P::THREE || c.at == c.src.len() || c.src[c.at] != b'-'
+        }
+        _ => false,
+    }
 }
 
-/// The same: a holder is no near leaf, and has one call less.
+/// The frame at the top: what is no near leaf has one call less.
 #[inline(always)]
 fn top<'a, P: Profile>(
     kind: Option<Kind>,
     c: Cursor<'a>,
     t: &mut [u64],
-    lim: usize,
     depth: usize,
     complete: bool,
 ) -> Result<(Walked, Cursor<'a>), Stop>
-    requires one { 0 < lim }
-    requires few { lim ≤ most_rows }
-    requires table { row_width * lim ≤ length t.old }
+    requires one { 0 < rows_in (length t.old) }
     requires known { Known P.profile (coded kind) }
-    ensures walks { Walks (call_p P.profile complete depth (coded kind)) true c.entry lim 1 0 t.old t.new result }
+    ensures walks { Walks (call_p P.profile complete depth (coded kind)) true c.entry (rows_in (length t.old)) 1 0 t.old t.new result }
     ensures kept { OnErr result (t.new ≡ t.old) }
 {
-    if is_holder(kind) {
-        return far_frame::<P>(kind, c, t, lim, depth, complete);
+    if is_far::<P>(kind, c) {
+        return far_frame::<P>(kind, c, t, depth, complete);
     }
-    top_frame::<P>(kind, c, t, lim, depth, complete)
+    top_frame::<P>(kind, c, t, depth, complete)
 }
 
 /// One frame from a place of src on, its rows in t, with at most `depth` frames in one another; where it is not `complete`, a marker is an answer too. An unfinished or refused decode leaves t as it was.
@@ -210,15 +204,14 @@ pub fn decode<P: Profile>(
     if depth == 0 {
         return Err(Stop::Refused(Refusal::Depth, at));
     }
-    let lim = rows::rows_of(t.len());
-    if lim == 0 {
+    if rows::rows_of(t.len()) == 0 {
         return Err(Stop::Refused(Refusal::Rows, at));
     }
     if src.len() < at {
         return Err(Stop::Unfinished);
     }
     let (b, c) = Cursor { src, at }.byte()?;
-    let (walked, end) = top::<P>(P::kind(b), c, t, lim, depth - 1, complete)?;
+    let (walked, end) = top::<P>(P::kind(b), c, t, depth - 1, complete)?;
     let n = end.at - at;
     if is_marker(walked.kind) {
         return Ok(Answer::Marker(n, walked.used));

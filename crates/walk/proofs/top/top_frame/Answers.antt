@@ -5,7 +5,7 @@ use Rattle.std.proofs.Math.Bool.{and-false}
 use Rattle.std.proofs.lemmas.Result.{err_from_is_err_and}
 use Rattle.walk.proofs.Said.{walks-as}
 use Rattle.walk.proofs.Steps.{near-stops, body-near}
-use Rattle.walk.proofs.Tops.{dry-stops, dry-stands, call-body}
+use Rattle.walk.proofs.Tops.{few, dry-stops, dry-stands, call-body}
 use Rattle.walk.proofs.top.top_frame.Goals as goal
 
 pub returns-in_err-near-clause-walks : goal.returns-in_err-near-clause-walks
@@ -18,6 +18,6 @@ pub returns-in-Some-clause-walks : goal.returns-in-Some-clause-walks
 returns-in-Some-clause-walks g c =
     let read = rw c.in_ok-near.was at c.in-Some.ensures.read in
     let unmarked = rw c.in_ok-near.was at c.in-Some.ensures.unmarked in
-    let dry = body-near _ _ _ _ {w = false} {t₀ = c.args.t.now} _ read c.requires.one c.requires.few refl in
+    let dry = body-near _ _ _ _ {w = false} {t₀ = c.args.t.now} _ read c.requires.one (few _ _ refl) refl in
     call-body _ _ _ _ refl c.in-Some.ensures.plain
-    (walks-as refl refl (dry-stands _ (sym unmarked) dry (and-false _)) (body-near _ _ _ _ _ read c.requires.one c.requires.few c.put_leaf.ensures))
+    (walks-as refl refl (dry-stands _ (sym unmarked) dry (and-false _)) (body-near _ _ _ _ _ read c.requires.one (few _ _ refl) c.put_leaf.ensures))
