@@ -19,11 +19,7 @@ module _ (s : List ℕ) (r : ℕ) where
       → (length s - r ≡ length s - r) × ((i : ℕ) → Clear cr s i r → found_of i (line_len (drop i s)) ≡ None)
   line-cut l h = (refl, λ i w. passed s i r l w ∙ ap (found_of r) (no_line s r h))
 
--- behind bytes that are no CR, the line ends where it did
-pub line-far : (s : List ℕ) (i r : ℕ) → Clear cr s i r → r ≤ length s → found_of i (line_len (drop i s)) ≡ found_of r (line_len (drop r s))
-line-far s i r w h = passed s i r h w
-
 pub line-none : (s : List ℕ) (i : ℕ) → Clear cr s i (length s) → found_of i (line_len (drop i s)) ≡ None
 line-none s i w = passed s i (length s) (omega arith) w ∙ ap (found_of (length s)) (no_line s (length s) (omega arith))
 
-pub ruleset line_ends = (line-ended, line-goes-on, line-cut, line-far, line-none)
+pub ruleset line_ends = (line-ended, line-goes-on, line-cut, passed, line-none)

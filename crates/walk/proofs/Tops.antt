@@ -236,7 +236,7 @@ module _ (π : Profile) (d : ℕ) (s t₀ : List ℕ) (at lim : ℕ) (e : lim �
         let h : eqb (frame_kind f) marker_kind ≡ false = ap (λ (k : ℕ). eqb k marker_kind) (sym i) ∙ y in
         record { says = rw (meant-is, q, h) refl; leaves = l ∙ rw (meant-is, q, h) refl }
 
--- a table has no more rows than are used
+-- of a table 4,096 rows are used at most
 pub few : (lim n : ℕ) → lim ≡ rows_in n → lim ≤ most_rows
 few lim n e = rw e (min-le_right (n / row_width) most_rows)
 

@@ -1,6 +1,6 @@
 -- `text::number::near_digits` meets its contract: a short line says the same as the line of any length.
 use Rattle.std.proofs.Common.{refl}
-use Rattle.text.proofs.Short.{short-within, short-value, short-count, sign-within, plus-value, plus-length}
+use Rattle.text.proofs.Short.{short-within, short-value, short-count, sign-within, short-plus, plus-count}
 use Rattle.text.proofs.number.near_digits.Goals as goal
 
 pub invariant_of-result : goal.invariant_of-result
@@ -16,7 +16,7 @@ pub invariant_of-result-2 : goal.invariant_of-result-2
 invariant_of-result-2 c = record { within = sign-within _ _ _ _ c.in_ok-value.ensures c.in_ok-sign_at.ensures }
 
 pub returns-clause-value : goal.returns-clause-value
-returns-clause-value c = record { means = plus-value _ _ _ _ c.in_ok-value.ensures c.if-branch.false c.in_ok-sign_at.ensures; over = refl }
+returns-clause-value c = record { means = short-plus _ _ _ _ (rw c.if-branch.false at c.in_ok-sign_at.ensures) c.in_ok-value.ensures; over = refl }
 
 pub returns-clause-count : goal.returns-clause-count
-returns-clause-count c = λ plain three. record { means = plus-length _ _ _ _ c.in_ok-value.ensures c.if-branch.false c.in_ok-sign_at.ensures plain three; over = refl }
+returns-clause-count c = λ plain three. record { means = plus-count _ _ _ _ (rw c.if-branch.false at c.in_ok-sign_at.ensures) c.in_ok-value.ensures plain three; over = refl }

@@ -1,4 +1,4 @@
--- The top frame: a leaf at once, a holder and an attribute by a walk that writes nothing and then one that writes.
+-- The top frame: a leaf and HELLO at once, a holder and an attribute as `top_held` walks them, in the rows that the table has.
 use Rattle.std.specs.Prelude.{◌≡◌, ◌<◌, true, false}
 use Rattle.std.proofs.Common.{refl, sym, ◌∙◌}
 use Rattle.std.proofs.lemmas.Result.{err_from_is_err_and}
